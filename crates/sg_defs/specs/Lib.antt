@@ -1,0 +1,9 @@
+pub mod Vectors
+pub mod Listings
+pub mod Membership
+pub mod Apery
+pub mod Invariants
+pub mod Symmetry
+pub mod Decomposition
+pub mod Closures
+pub mod Ideals
