@@ -1,0 +1,106 @@
+-- What the order and the repeats of given generators do not change.
+use Rattle.std.proofs.Common.{◌≡◌, ℕ, ◌<◌, ◌≤◌, ◌^◌, List, length, get_or, ap, subst, ◌∙◌, inl, inr, arith}
+use Rattle.std.specs.Prelude.{Contains}
+use Rattle.std.specs.Int.{◌∣◌}
+use Rattle.std.specs.List.Sorted.{IsStrictlyIncreasing}
+use Rattle.std.proofs.lemmas.Bool.{cases_eq}
+use Rattle.std.proofs.lemmas.List.Elements.{All-from_get_or}
+use Rattle.std.proofs.lemmas.List.Kept.{AllPairs-from_increasing}
+use Rattle.sg_defs.specs.Membership.{IsMember, IsNumericalSemigroup, Generates}
+use Rattle.sg_apery.proofs.GeneratorLemmas.{contains-place, place-contains, member-listed, member-split, holds-from_entries}
+use Rattle.sg_defs.proofs.MembershipLemmas.{member-entry}
+use Rattle.sg_apery.specs.Arguments.{AreSmall, IsAccepted, IsRefused}
+use Rattle.sg_apery.specs.declared.table.TableFault.{TableFault}
+use Rattle.sg_apery.specs.declared.table.TableFault.TheVariants.{BadArgument, TooLarge, Memory}
+use Rattle.sg_apery.specs.Table.{IsTable, IsMinimalTable}
+
+-- what holds of each entry of ys holds of each entry of xs, where ys lists those
+pub each-kept : (P : ℕ → Type 0) (xs ys : List ℕ) → ((x : ℕ) → Contains xs x → Contains ys x) → ((k : ℕ) → k < length ys → P (get_or ys k 0)) → (k : ℕ) → k < length xs → P (get_or xs k 0)
+each-kept P xs ys keeps h k l =
+    let p = contains-place ys (get_or xs k 0) (keeps (get_or xs k 0) (place-contains xs k l)) in
+    subst P p.2 (h p.0 p.1)
+
+-- xs and ys list the same numbers
+module _ (xs ys : List ℕ) (keeps : (x : ℕ) → Contains xs x → Contains ys x) (adds_none : (x : ℕ) → Contains ys x → Contains xs x) where
+  long : 0 < length ys → 0 < length xs
+  long l = let p = contains-place xs (get_or ys 0 0) (adds_none (get_or ys 0 0) (place-contains ys 0 l)) in omega (arith, p.1)
+
+  pub member-same : (n : ℕ) → IsMember xs n → IsMember ys n
+  member-same = holds-from_entries ys xs (λ k l. member-listed ys (get_or xs k 0) (keeps (get_or xs k 0) (place-contains xs k l)))
+
+  pub small-same : AreSmall ys → AreSmall xs
+  small-same = each-kept (λ x. x < 2 ^ 32) xs ys keeps
+
+  pub semigroup-same : IsNumericalSemigroup ys → IsNumericalSemigroup xs
+  semigroup-same s = record {
+    not_empty = long s.not_empty;
+    positive = All-from_get_or (λ g. 1 ≤ g) xs 0 (each-kept (λ g. 1 ≤ g) xs ys keeps (λ k l. s.positive k 0 l));
+    coprime = λ d h. s.coprime d (All-from_get_or (λ g. d ∣ g) ys 0 (each-kept (λ g. d ∣ g) ys xs adds_none (λ k l. h k 0 l)));
+  }
+
+pub generates-same : (xs ys : List ℕ) → ((x : ℕ) → Contains xs x → Contains ys x) → ((x : ℕ) → Contains ys x → Contains xs x) → (M : List ℕ) → Generates (IsMember ys) M → Generates (IsMember xs) M
+generates-same xs ys keeps adds_none M g = record {
+  semigroup = g.semigroup;
+  minimal = g.minimal;
+  same = λ n. ((λ p. (g.same n).0 (member-same xs ys keeps adds_none n p)), (λ q. member-same ys xs adds_none keeps n ((g.same n).1 q)));
+}
+
+pub accepted-same : (xs ys : List ℕ) → ((x : ℕ) → Contains xs x → Contains ys x) → ((x : ℕ) → Contains ys x → Contains xs x) → IsAccepted ys → IsAccepted xs
+accepted-same xs ys keeps adds_none a = record {
+  small = small-same xs ys keeps adds_none a.small;
+  semigroup = semigroup-same xs ys keeps adds_none a.semigroup;
+  least =
+      let p = contains-place xs (get_or ys a.least.0 0) (adds_none (get_or ys a.least.0 0) (place-contains ys a.least.0 a.least.1)) in
+      (p.0, p.1, omega (arith, a.least.2, p.2));
+}
+
+pub refused-same : (xs ys : List ℕ) → ((x : ℕ) → Contains xs x → Contains ys x) → ((x : ℕ) → Contains ys x → Contains xs x) → (f : TableFault) → IsRefused ys f → IsRefused xs f
+refused-same xs ys keeps adds_none BadArgument h = (small-same xs ys keeps adds_none h.0, (λ s. h.1 (semigroup-same ys xs adds_none keeps s)))
+refused-same xs ys keeps adds_none TooLarge h = elim h [
+  | inl large ↦
+      let p = contains-place xs (get_or ys large.0 0) (adds_none (get_or ys large.0 0) (place-contains ys large.0 large.1)) in
+      inl (p.0, p.1, omega (arith, large.2, p.2))
+  | inr wide ↦ inr (small-same xs ys keeps adds_none wide.0, semigroup-same xs ys keeps adds_none wide.1, each-kept (λ x. 2 ^ 20 < x) xs ys keeps wide.2)
+]
+refused-same xs ys keeps adds_none (Memory e) h = tt
+
+-- the first of ascending entries is the least
+pub first-least : (xs : List ℕ) → IsStrictlyIncreasing xs → (k : ℕ) → k < length xs → get_or xs 0 0 ≤ get_or xs k 0
+first-least xs up k l = elim (cases_eq k 0) [
+  | inl e ↦ omega (arith, ap (λ n. get_or xs n 0) e)
+  | inr other ↦ omega (arith, AllPairs-from_increasing xs up 0 k 0 (omega arith) l)
+]
+
+-- no member above 0 is below the first entry
+first-below : (G : List ℕ) → IsStrictlyIncreasing G → (n : ℕ) → 0 < n → IsMember G n → get_or G 0 0 ≤ n
+first-below G up n positive h = elim (member-split G n h) [
+  | inl e ↦ absurd (omega (arith, positive, e))
+  | inr p ↦ omega (arith, first-least G up p.0 p.2, p.4)
+]
+
+-- lists with the same members begin with the same number
+first-same : (D M : List ℕ) → IsStrictlyIncreasing D → IsNumericalSemigroup D → Generates (IsMember D) M → get_or D 0 0 ≡ get_or M 0 0
+first-same D M up s g =
+    let a = first-below D up (get_or M 0 0) (omega (arith, g.semigroup.positive 0 0 g.semigroup.not_empty)) ((g.same (get_or M 0 0)).1 (member-entry M 0 g.semigroup.not_empty)) in
+    let b = first-below M g.minimal.ascending (get_or D 0 0) (omega (arith, s.positive 0 0 s.not_empty)) ((g.same (get_or D 0 0)).0 (member-entry D 0 s.not_empty)) in
+    omega (arith, a, b)
+
+-- a table serves every list with the same members
+pub table-same : (D M t : List ℕ) → IsStrictlyIncreasing D → length t ≡ get_or D 0 0 → IsTable D t → Generates (IsMember D) M → IsMinimalTable M t
+table-same D M t up long h g = record {
+  table = record {
+    semigroup = g.semigroup;
+    not_empty = h.not_empty;
+    short = h.short;
+    modulus = (g.same (length t)).0 h.modulus;
+    apery = record {
+      entries = h.apery.entries;
+      member = λ i l. (g.same (get_or t i 0)).0 (h.apery.member i l);
+      residue = h.apery.residue;
+      least = λ i y l e q. h.apery.least i y l e ((g.same y).1 q);
+    };
+    small = h.small;
+  };
+  minimal = g.minimal;
+  multiplicity = long ∙ first-same D M up h.semigroup g;
+}

@@ -1,0 +1,199 @@
+-- A list of generators without those that another generator and a member make.
+use Rattle.std.proofs.Common.{◌≡◌, ◌≢◌, ℕ, zero, suc, ◌+◌, ◌-◌, ◌<◌, ◌≤◌, List, [], ◌∷◌, ◌++◌, length, get_or, refl, sym, subst, ◌∙◌, inl, inr, arith}
+use Rattle.std.specs.Prelude.{AllPairs, Contains, remove, ◌⊎◌}
+use Rattle.std.specs.Int.{◌∣◌}
+use Rattle.std.specs.List.Sorted.{IsStrictlyIncreasing}
+use Rattle.std.proofs.lemmas.Bool.{cases_lt, cases_eq}
+use Rattle.std.proofs.lemmas.Nat.Gcd.{dvd-zero}
+use Rattle.std.proofs.lemmas.List.{get_or_default, get_or_append_left, get_or_push, length_push}
+use Rattle.std.proofs.lemmas.List.Elements.{All-from_get_or, Contains-get_or, Contains-append_left, Contains-push}
+use Rattle.std.proofs.lemmas.List.Edits.{get_or-remove_below, get_or-remove_above, length-remove}
+use Rattle.std.proofs.lemmas.List.Kept.{AllPairs-from_increasing}
+use Rattle.std.proofs.Math.Nat.{dvd-add}
+use Rattle.sg_defs.specs.Membership.{IsMember, IsNumericalSemigroup, Generates, Holds}
+use Rattle.sg_apery.specs.Generators.{IsSpare}
+use Rattle.sg_defs.proofs.MembershipLemmas.{member-zero, member-add, member-entry, member-induction}
+
+-- the place of an element, read with 0
+pub contains-place : (xs : List ℕ) (x : ℕ) → Contains xs x → (k : ℕ) × (k < length xs) × (get_or xs k 0 ≡ x)
+contains-place xs x h = (h.0, h.1, get_or_default xs h.0 0 x h.1 ∙ h.2)
+
+pub place-contains : (xs : List ℕ) (k : ℕ) → k < length xs → Contains xs (get_or xs k 0)
+place-contains xs k l = Contains-get_or xs k 0 l
+
+-- what is listed is a member
+pub member-listed : (G : List ℕ) (g : ℕ) → Contains G g → IsMember G g
+member-listed G g h = let p = contains-place G g h in subst (IsMember G) p.2 (member-entry G p.0 p.1)
+
+-- where each entry of G is a member of H, so is each member of G
+pub holds-from_entries : (H G : List ℕ) → ((k : ℕ) → k < length G → IsMember H (get_or G k 0)) → Holds H G
+holds-from_entries H G h = member-induction (IsMember H) G (member-zero H) (λ i n l p. member-add H n (get_or G i 0) p (h i l))
+
+-- a member is 0, or an entry and a member
+pub member-split : (G : List ℕ) (n : ℕ) → IsMember G n → (n ≡ 0) ⊎ ((i r : ℕ) × (i < length G) × IsMember G r × (n ≡ r + get_or G i 0))
+member-split G n h = (member-induction (λ n. IsMember G n × ((n ≡ 0) ⊎ ((i r : ℕ) × (i < length G) × IsMember G r × (n ≡ r + get_or G i 0)))) G
+    (member-zero G, inl refl)
+    (λ i n l p. (member-add G n (get_or G i 0) p.0 (member-entry G i l), inr (i, n, l, p.0, refl))) n h).1
+
+-- what divides each entry divides each member
+pub member-divides : (G : List ℕ) (d n : ℕ) → ((i : ℕ) → i < length G → d ∣ get_or G i 0) → IsMember G n → d ∣ n
+member-divides G d n h = member-induction (λ n. d ∣ n) G (dvd-zero d) (λ i n l p. dvd-add d p (h i l)) n
+
+-- M holds the entries of D that are not spare
+pub record IsMinimalPart (D M : List ℕ) : Type 0 where
+  pub ascending : IsStrictlyIncreasing M
+  pub kept : (k : ℕ) → k < length M → Contains D (get_or M k 0) × (IsSpare D (get_or M k 0) → ⊥)
+  pub whole : (k : ℕ) → k < length D → Contains M (get_or D k 0) ⊎ IsSpare D (get_or D k 0)
+
+module _ (D M : List ℕ) (s : IsNumericalSemigroup D) (m : IsMinimalPart D M) where
+  positive : (g : ℕ) → Contains D g → 0 < g
+  positive g h = let p = contains-place D g h in omega (arith, s.positive p.0 0 p.1, p.2)
+
+  -- by induction on a bound: an entry is kept, or it is two lesser members
+  holds-below : (b n : ℕ) → n ≤ b → IsMember D n → IsMember M n
+  holds-below zero n l h = subst (IsMember M) (let e : 0 ≡ n = omega arith in e) (member-zero M)
+  holds-below (suc b) n l h = elim (member-split D n h) [
+    | inl e ↦ subst (IsMember M) (sym e) (member-zero M)
+    | inr p ↦ elim (cases_eq p.1 0) [
+      | inl none ↦
+          let e : get_or D p.0 0 ≡ n = omega (arith, p.4) in
+          elim (m.whole p.0 p.2) [
+            | inl listed ↦ subst (IsMember M) e (member-listed M (get_or D p.0 0) listed)
+            | inr spare ↦
+                let first = holds-below b spare.0 (omega arith) (member-listed D spare.0 spare.1) in
+                let rest = holds-below b (get_or D p.0 0 - spare.0) (omega (arith, positive spare.0 spare.1)) spare.3 in
+                subst (IsMember M) (let f : spare.0 + (get_or D p.0 0 - spare.0) ≡ n = omega arith in f) (member-add M spare.0 (get_or D p.0 0 - spare.0) first rest)
+          ]
+      | inr some ↦
+          let g = positive (get_or D p.0 0) (place-contains D p.0 p.2) in
+          let rest = holds-below b p.1 (omega (arith, p.4)) p.3 in
+          let first = holds-below b (get_or D p.0 0) (omega (arith, p.4)) (member-entry D p.0 p.2) in
+          subst (IsMember M) (sym p.4) (member-add M p.1 (get_or D p.0 0) rest first)
+    ]
+  ]
+
+  holds : Holds M D
+  holds n h = holds-below n n (omega arith) h
+
+  held : Holds D M
+  held = holds-from_entries D M (λ k l. member-listed D (get_or M k 0) (m.kept k l).0)
+
+  long : 0 < length M
+  long = elim (cases_eq (length M) 0) [
+    | inl none ↦
+        let g = positive (get_or D 0 0) (place-contains D 0 s.not_empty) in
+        elim (member-split M (get_or D 0 0) (holds (get_or D 0 0) (member-entry D 0 s.not_empty))) [
+          | inl e ↦ absurd (omega (arith, g, e))
+          | inr p ↦ absurd (omega (arith, p.2, none))
+        ]
+    | inr some ↦ omega arith
+  ]
+
+  -- an entry is no member of the list of the others: else another entry and a member would make it
+  needed : (k : ℕ) → k < length M → IsMember (remove M k) (get_or M k 0) → ⊥
+  needed k l h = elim (member-split (remove M k) (get_or M k 0) h) [
+    | inl e ↦ omega (arith, positive (get_or M k 0) (m.kept k l).0, e)
+    | inr p ↦ other p.0 p.1 p.2 p.3 p.4
+  ]
+    where
+      same : (i : ℕ) → i < length (remove M k) → (j : ℕ) × (j < length M) × (j ≢ k) × (get_or (remove M k) i 0 ≡ get_or M j 0)
+      same i q = elim (cases_lt i k) [
+        | inl less ↦ (i, omega (arith, length-remove M k l), omega arith, get_or-remove_below M k 0 i less l)
+        | inr more ↦ (i + 1, omega (arith, length-remove M k l), omega arith, get_or-remove_above M k 0 i more l)
+      ]
+
+      part : Holds M (remove M k)
+      part = holds-from_entries M (remove M k) (λ i q. let j = same i q in subst (IsMember M) (sym j.3) (member-entry M j.0 j.1))
+
+      other : (i r : ℕ) → i < length (remove M k) → IsMember (remove M k) r → get_or M k 0 ≡ r + get_or (remove M k) i 0 → ⊥
+      other i r q g e =
+          let j = same i q in
+          let order = AllPairs-from_increasing M m.ascending in
+          let differs : get_or M j.0 0 ≢ get_or M k 0 = λ f. elim (cases_lt j.0 k) [
+            | inl less ↦ omega (arith, order j.0 k 0 less l, f)
+            | inr more ↦ omega (arith, order k j.0 0 (omega (arith, j.2)) j.1, f)
+          ] in
+          let below : get_or M j.0 0 < get_or M k 0 = omega (arith, j.3, e) in
+          let rest : r ≡ get_or M k 0 - get_or M j.0 0 = omega (arith, j.3, e) in
+          (m.kept k l).1 (get_or M j.0 0, (m.kept j.0 j.1).0, below, subst (IsMember D) rest (held r (part r g)))
+
+  pub generates-minimal_part : Generates (IsMember D) M
+  generates-minimal_part = record {
+    semigroup = record {
+      not_empty = long;
+      positive = All-from_get_or (λ g. 1 ≤ g) M 0 (λ k l. positive (get_or M k 0) (m.kept k l).0);
+      coprime = λ d h. s.coprime d (All-from_get_or (λ g. d ∣ g) D 0
+          (λ k l. member-divides M d (get_or D k 0) (λ i q. h i 0 q) (holds (get_or D k 0) (member-entry D k l))));
+    };
+    minimal = record { ascending = m.ascending; needed = needed };
+    same = λ n. (holds n, held n);
+  }
+
+-- the minimal part of the first n entries, and each of the other entries is above it
+pub record IsPartOf (D M : List ℕ) (n : ℕ) : Type 0 where
+  pub ascending : IsStrictlyIncreasing M
+  pub before : (k i : ℕ) → k < length M → n ≤ i → i < length D → get_or M k 0 < get_or D i 0
+  pub kept : (k : ℕ) → k < length M → Contains D (get_or M k 0) × (IsSpare D (get_or M k 0) → ⊥)
+  pub whole : (k : ℕ) → k < n → Contains M (get_or D k 0) ⊎ IsSpare D (get_or D k 0)
+
+pub part-none : (D : List ℕ) → IsPartOf D [] 0
+part-none D = record {
+  ascending = λ k l. absurd (omega arith);
+  before = λ k i l m n. absurd (omega arith);
+  kept = λ k l. absurd (omega arith);
+  whole = λ k l. absurd (omega arith);
+}
+
+-- a place of a list with one more at its end
+push_cases : (M : List ℕ) (g k : ℕ) → k < length (M ++ g ∷ []) → ((k < length M) × (get_or (M ++ g ∷ []) k 0 ≡ get_or M k 0)) ⊎ ((k ≡ length M) × (get_or (M ++ g ∷ []) k 0 ≡ g))
+push_cases M g k l = elim (cases_lt k (length M)) [
+  | inl less ↦ inl (less, get_or_append_left M (g ∷ []) 0 k less)
+  | inr more ↦
+      let e : length M ≡ k = omega (arith, length_push M g) in
+      inr (sym e, get_or_push M g 0 k e)
+]
+
+-- listed and not spare
+abbrev IsKept : List ℕ → ℕ → Type 0
+IsKept D x = Contains D x × (IsSpare D x → ⊥)
+
+pub part-push : (D M : List ℕ) (n : ℕ) → IsStrictlyIncreasing D → n < length D → (IsSpare D (get_or D n 0) → ⊥) → IsPartOf D M n → IsPartOf D (M ++ get_or D n 0 ∷ []) (n + 1)
+part-push D M n up inside needed p = record {
+  ascending = λ k l. elim (push_cases M (get_or D n 0) k (omega arith)) [
+    | inl a ↦ elim (push_cases M (get_or D n 0) (k + 1) l) [
+      | inl b ↦ omega (arith, p.ascending k b.0, a.1, b.1)
+      | inr b ↦ omega (arith, p.before k n a.0 (omega arith) inside, a.1, b.1)
+    ]
+    | inr a ↦ absurd (omega (arith, a.0, l, length_push M (get_or D n 0)))
+  ];
+  before = λ k i l m q. elim (push_cases M (get_or D n 0) k l) [
+    | inl a ↦ omega (arith, p.before k i a.0 (omega arith) q, a.1)
+    | inr a ↦ omega (arith, order n i 0 (omega arith) q, a.1)
+  ];
+  kept = λ k l. elim (push_cases M (get_or D n 0) k l) [
+    | inl a ↦ subst (IsKept D) (sym a.1) (p.kept k a.0)
+    | inr a ↦ subst (IsKept D) (sym a.1) (place-contains D n inside, needed)
+  ];
+  whole = λ k l. elim (cases_lt k n) [
+    | inl less ↦ elim (p.whole k less) [ inl a ↦ inl (Contains-append_left M (get_or D n 0 ∷ []) (get_or D k 0) a) | inr a ↦ inr a ]
+    | inr more ↦ let e : n ≡ k = omega arith in inl (subst (λ j. Contains (M ++ get_or D n 0 ∷ []) (get_or D j 0)) e (Contains-push M (get_or D n 0)))
+  ];
+}
+  where
+    order : AllPairs (λ x y. x < y) D
+    order = AllPairs-from_increasing D up
+
+pub part-skip : (D M : List ℕ) (n : ℕ) → IsSpare D (get_or D n 0) → IsPartOf D M n → IsPartOf D M (n + 1)
+part-skip D M n spare p = record {
+  ascending = p.ascending;
+  before = λ k i l m q. p.before k i l (omega arith) q;
+  kept = p.kept;
+  whole = λ k l. elim (cases_lt k n) [
+    | inl less ↦ p.whole k less
+    | inr more ↦ let e : n ≡ k = omega arith in inr (subst (λ j. IsSpare D (get_or D j 0)) e spare)
+  ];
+}
+
+-- the minimal part of all entries is the minimal list
+pub generates-part : (D M : List ℕ) (n : ℕ) → IsNumericalSemigroup D → length D ≤ n → IsPartOf D M n → Generates (IsMember D) M
+generates-part D M n s l p = generates-minimal_part D M s (record { ascending = p.ascending; kept = p.kept; whole = λ k q. p.whole k (omega arith) })

@@ -1,0 +1,105 @@
+-- From a settled table to the Apery list, and from there to membership.
+use Rattle.std.proofs.Common.{◌≡◌, ℕ, ◌+◌, ◌-◌, ◌%◌, ◌^◌, ◌<◌, ◌≤◌, ◌↔◌, List, length, get_or, set, refl, sym, ap, subst, ◌∙◌, inl, inr, arith}
+use Rattle.std.specs.Int.Signed.{lt_z}
+use Rattle.std.specs.Prelude.{false, ℤ, pos, negsuc, nat_abs, IsTrue, nat_le, nat_lt}
+use Rattle.std.proofs.lemmas.Bool.{cases_eq, leb-true, le-leb}
+use Rattle.std.proofs.lemmas.Nat.{mod_below}
+use Rattle.std.proofs.lemmas.List.{length-set, get_or-set_same, get_or-set_other, get_or_default}
+use Rattle.std.proofs.lemmas.List.Sums.{count_by-le-length}
+use Rattle.sg_defs.specs.Membership.{IsMember, IsIntegerMember, IsNumericalSemigroup}
+use Rattle.sg_defs.specs.Apery.{IsAperyEntry}
+use Rattle.sg_defs.proofs.MembershipLemmas.{member-zero, member-induction}
+use Rattle.sg_apery.proofs.ResidueLemmas.{same_residue-add, member-residue}
+use Rattle.sg_apery.proofs.AperyLemmas.{apery-from_closed, apery-member}
+use Rattle.sg_apery.specs.Relaxation.{IsSound, IsSettled}
+use Rattle.sg_apery.specs.Table.{IsTable, IsMinimalTable}
+
+-- where nothing but 0 is known yet the table is sound
+pub IsSound-first : (G t : List ℕ) → 0 < length t → length t ≤ 2 ^ 20 → ((j : ℕ) → j < length G → get_or G j 0 < 2 ^ 32) →
+    ((i : ℕ) → i < length t → get_or t i 0 ≡ 2 ^ 64 - 1) → IsSound G (set t 0 0)
+IsSound-first G t long short small unreached = record {
+  not_empty = omega (arith, same_length);
+  short = omega (arith, same_length);
+  small = small;
+  zero = get_or-set_same t 0 0 0 long;
+  member = λ i l h. subst (IsMember G) (sym (known i l h).1) (member-zero G);
+  residue = λ i l h. residue i l h;
+  bound = λ i l h. omega (arith, (known i l h).1);
+}
+  where
+    same_length : length (set t 0 0) ≡ length t
+    same_length = length-set t 0 0
+
+    known : (i : ℕ) → i < length (set t 0 0) → get_or (set t 0 0) i 0 < 2 ^ 64 - 1 → (i ≡ 0) × (get_or (set t 0 0) i 0 ≡ 0)
+    known i l h = elim (cases_eq i 0) [
+      | inl e ↦ (e, subst (λ n. get_or (set t 0 0) n 0 ≡ 0) (sym e) (get_or-set_same t 0 0 0 long))
+      | inr other ↦ absurd (omega (arith, get_or-set_other t 0 i 0 0 other, unreached i (omega (arith, same_length))))
+    ]
+
+    residue : (i : ℕ) → i < length (set t 0 0) → get_or (set t 0 0) i 0 < 2 ^ 64 - 1 → get_or (set t 0 0) i 0 % length (set t 0 0) ≡ i
+    residue i l h =
+        let e : 0 % length (set t 0 0) ≡ 0 = omega arith in
+        ap (λ n. n % length (set t 0 0)) (known i l h).1 ∙ e ∙ sym (known i l h).0
+
+-- every class is reached once no generator lowers an entry
+all_reached : (G t : List ℕ) → IsNumericalSemigroup G → IsSound G t → ((i : ℕ) → i < length t → IsSettled G t i) → (i : ℕ) → i < length t → get_or t i 0 < 2 ^ 64 - 1
+all_reached G t s sound settled i inside =
+    let n = member-residue G (length t) i s inside in
+    subst (λ r. get_or t r 0 < 2 ^ 64 - 1) n.2 (member-induction (λ x. get_or t (x % length t) 0 < 2 ^ 64 - 1) G base step n.0 n.1)
+  where
+    base : get_or t (0 % length t) 0 < 2 ^ 64 - 1
+    base =
+        let e : 0 % length t ≡ 0 = omega arith in
+        let f : get_or t (0 % length t) 0 ≡ 0 = ap (λ i. get_or t i 0) e ∙ sound.zero in
+        omega arith
+
+    step : (j x : ℕ) → j < length G → get_or t (x % length t) 0 < 2 ^ 64 - 1 → get_or t ((x + get_or G j 0) % length t) 0 < 2 ^ 64 - 1
+    step j x l h =
+        let i = x % length t in
+        let inside : i < length t = mod_below x (length t) sound.not_empty in
+        let low : get_or t ((get_or t i 0 + get_or G j 0) % length t) 0 ≤ get_or t i 0 + get_or G j 0 = settled i inside h j l in
+        let same : (get_or t i 0 + get_or G j 0) % length t ≡ (x + get_or G j 0) % length t =
+        same_residue-add (get_or t i 0) x (get_or G j 0) (length t) (sound.residue i inside h) in
+        let low' : get_or t ((x + get_or G j 0) % length t) 0 ≤ get_or t i 0 + get_or G j 0 = subst (λ r. get_or t r 0 ≤ get_or t i 0 + get_or G j 0) same low in
+        omega (arith, sound.bound i inside h, sound.small j l, sound.short, count_by-le-length (λ x. nat_lt x (2 ^ 64 - 1)) t)
+
+-- a settled table is the Apery list
+pub IsTable-settled : (G t : List ℕ) → IsNumericalSemigroup G → IsMember G (length t) → IsSound G t → ((i : ℕ) → i < length t → IsSettled G t i) → IsTable G t
+IsTable-settled G t s modulus sound settled =
+    let reached = all_reached G t s sound settled in
+    record {
+      semigroup = s;
+      not_empty = sound.not_empty;
+      short = sound.short;
+      modulus = modulus;
+      apery = apery-from_closed G (length t) t sound.not_empty refl sound.zero
+          (λ i l. sound.member i l (reached i l)) (λ i l. sound.residue i l (reached i l)) (λ i j l k. settled i l (reached i l) j k);
+      small = λ i l. omega (arith, sound.bound i l (reached i l), sound.short, count_by-le-length (λ x. nat_lt x (2 ^ 64 - 1)) t);
+    }
+
+-- the comparison with the entry of its class tells whether a number is a member
+pub contains-natural : (G t : List ℕ) (n w : ℕ) → IsTable G t → w ≡ get_or t (n % length t) w → (w ≤ n) ↔ IsMember G n
+contains-natural G t n w h read =
+    let inside : n % length t < length t = mod_below n (length t) h.not_empty in
+    let same : w ≡ get_or t (n % length t) 0 = read ∙ get_or_default t (n % length t) w 0 inside in
+    let both = apery-member G (length t) t h.not_empty h.modulus h.apery n in
+    ((λ l. both.1 (subst (λ v. v ≤ n) same l)), (λ q. subst (λ v. v ≤ n) (sym same) (both.0 q)))
+
+-- the same for an integer that is not below 0
+pub contains-integer : (G t : List ℕ) (x : ℤ) (len w : ℕ) → IsTable G t → lt_z x (pos 0) ≡ false → len ≡ length t → w ≡ get_or t (nat_abs x % len) w →
+    IsTrue (nat_le w (nat_abs x)) ↔ IsIntegerMember G x
+contains-integer G t (pos n) len w h low same read =
+    let both = contains-natural G t n w h (subst (λ m. w ≡ get_or t (n % m) w) same read) in
+    ((λ l. both.0 (leb-true w n l)), (λ q. le-leb w n (both.1 q)))
+contains-integer G t (negsuc n) len w h low same read = absurd cc
+
+-- an entry of the table is that of the Apery list
+pub entry-read : (G t : List ℕ) (i w : ℕ) → IsMinimalTable G t → i < get_or G 0 0 → w ≡ get_or t i w → IsAperyEntry G (get_or G 0 0) i w
+entry-read G t i w h inside read =
+    let l : i < length t = omega (arith, h.multiplicity, inside) in
+    let same : get_or t i 0 ≡ w = get_or_default t i 0 w l ∙ sym read in
+    subst (λ m. IsAperyEntry G m i w) h.multiplicity (subst (IsAperyEntry G (length t) i) same (record {
+      member = h.table.apery.member i l;
+      residue = h.table.apery.residue i l;
+      least = λ y e q. h.table.apery.least i y l e q;
+    }))

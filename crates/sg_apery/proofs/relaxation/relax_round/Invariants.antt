@@ -1,0 +1,11 @@
+use Rattle.std.proofs.Common.{◌≡◌, ℕ, ◌<◌, false, true, sum}
+use Rattle.sg_apery.specs.Relaxation.{IsSound, IsSettled}
+use Rattle.sg_apery.proofs.relaxation.relax_round.Given as goal
+
+abbrev pub invariant-loop-from : goal.invariant-loop-from
+invariant-loop-from l = record {
+  sound : IsSound l.generators l.table;
+  lower : l.lowered ≡ true → sum l.table < sum l.fn.table;
+  same : l.lowered ≡ false → l.table ≡ l.fn.table;
+  settled : l.lowered ≡ false → (i : ℕ) → i < l.from → IsSettled l.generators l.table i;
+}

@@ -1,0 +1,4 @@
+pub mod Generators
+pub mod Arguments
+pub mod Relaxation
+pub mod Table

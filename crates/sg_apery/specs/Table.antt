@@ -1,0 +1,19 @@
+-- What a table keeps.
+use Rattle.std.specs.Prelude.{◌≡◌, ℕ, ◌^◌, ◌<◌, ◌≤◌, List, length, slice_index}
+use Rattle.sg_defs.specs.Membership.{IsMember, IsNumericalSemigroup, IsMinimal}
+use Rattle.sg_defs.specs.Apery.{IsApery}
+
+-- t is the Apery list of G modulo its length, which is a member of G
+pub record IsTable (G t : List ℕ) : Type 0 where
+  pub semigroup : IsNumericalSemigroup G
+  pub not_empty : 0 < length t
+  pub short : length t ≤ 2 ^ 20
+  pub modulus : IsMember G (length t)
+  pub apery : IsApery G (length t) t
+  pub small : (i : ℕ) → i < length t → slice_index t i ≤ 2 ^ 52
+
+-- G is the minimal list, and the modulus is the multiplicity
+pub record IsMinimalTable (G t : List ℕ) : Type 0 where
+  pub table : IsTable G t
+  pub minimal : IsMinimal G
+  pub multiplicity : length t ≡ slice_index G 0

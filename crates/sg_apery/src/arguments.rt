@@ -1,0 +1,54 @@
+//! Tests of the arguments of the constructors.
+
+ghost use Rattle.std.specs.Prelude.{◌≡◌, ◌<◌, ◌≤◌, ◌^◌, ℕ, length, All, Contains, EachIndex, slice_index, IsTrue, ◌↔◌};
+ghost use Rattle.std.specs.Int.{◌∣◌};
+ghost use Rattle.sg_defs.specs.Membership.{IsNumericalSemigroup};
+ghost use Rattle.sg_apery.specs.Arguments.{IsDivisorOfAll};
+
+use sg_nat::gcd;
+
+/// The greatest common divisor of the entries, and 0 of no entries.
+fn common_divisor(entries: &[u64]) -> u64
+    ensures { (d : ℕ) → (d ∣ result) ↔ IsDivisorOfAll d entries.now }
+{
+    let mut divisor = 0;
+    for entry in entries {
+        divisor = gcd(divisor, *entry);
+    }
+    divisor
+}
+
+/// Whether no entry is 0.
+fn are_positive(entries: &[u64]) -> bool
+    ensures { IsTrue result ↔ All (λ entry. 1 ≤ entry) entries.now }
+{
+    entries.iter().all(|entry| *entry >= 1)
+}
+
+/// Whether the entries generate a numerical semigroup.
+pub fn is_numerical_semigroup(entries: &[u64]) -> bool
+    ensures { IsTrue result ↔ IsNumericalSemigroup entries.now }
+{
+    if entries.is_empty() {
+        return false;
+    }
+    if !are_positive(entries) {
+        return false;
+    }
+    common_divisor(entries) == 1
+}
+
+/// The least entry.
+pub fn least(entries: &[u64]) -> u64
+    requires { 0 < length entries.now }
+    ensures listed { Contains entries.now result }
+    ensures least { EachIndex entries.now (λ k. result ≤ slice_index entries.now k) }
+{
+    let mut found = entries[0];
+    for entry in entries {
+        if *entry < found {
+            found = *entry;
+        }
+    }
+    found
+}
