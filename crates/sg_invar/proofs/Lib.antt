@@ -1,0 +1,3 @@
+pub mod MultiplicityLemmas
+pub mod FrobeniusLemmas
+pub mod GenusLemmas

@@ -1,0 +1,6 @@
+use Rattle.std.proofs.Common.{slice_index, ◌^◌}
+use Rattle.sg_invar.proofs.GenusLemmas.{IsSumOfQuotients}
+use Rattle.sg_invar.proofs.numbers.genus.Given as goal
+
+abbrev pub invariant-loop-i : goal.invariant-loop-i
+invariant-loop-i l = IsSumOfQuotients l.table (slice_index l.table 0) (2 ^ 52) l.i l.gaps
