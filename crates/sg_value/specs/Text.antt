@@ -1,0 +1,57 @@
+-- The text that `Print` writes for plain data.
+use Rattle.std.specs.Prelude.{ℕ, Bool, true, false, List, [], ◌∷◌, ◌++◌, codes, decimal, map, flat_map, if◌then◌else◌, ◌==◌, Result, OnOk, ◌≡◌}
+use Rattle.std.specs.List.{join_by}
+use Rattle.std.specs.Fmt.{signed_decimal}
+use Rattle.sg_value.specs.Data.{Data, int, truth, text, list, fail, semigroup, Items, none, item}
+
+-- a byte of a text in a list: the quote, the backslash, the line feed and the tab are written as two bytes
+abbrev pub escaped : ℕ → List ℕ
+escaped b =
+    if b == 34 then codes "\\\"" else (if b == 92 then codes "\\\\" else (if b == 10 then codes "\\n" else (if b == 9 then codes "\\t" else b ∷ [])))
+
+-- a text in a list
+abbrev pub quoted : List ℕ → List ℕ
+quoted bs = codes "\"" ++ (flat_map escaped bs ++ codes "\"")
+
+-- a list whose entries have these texts; between the brackets of an empty one are two spaces
+abbrev pub bracketed : List (List ℕ) → List ℕ
+bracketed texts = codes "[ " ++ (join_by (λ t. t) (codes ", ") texts ++ codes " ]")
+
+-- a list of naturals
+abbrev pub numbers : List ℕ → List ℕ
+numbers ns = bracketed (map decimal ns)
+
+abbrev pub bool_text : Bool → List ℕ
+bool_text true = codes "true"
+bool_text false = codes "false"
+
+-- an entry of a list
+abbrev mutual
+  pub entry_text : Data (List ℕ) → List ℕ
+  entry_text (int z) = signed_decimal z
+  entry_text (truth b) = bool_text b
+  entry_text (text bs) = quoted bs
+  entry_text (list ds) = bracketed (entry_texts ds)
+  entry_text fail = codes "fail"
+  entry_text (semigroup gens) = codes "NumericalSemigroup( " ++ (numbers gens ++ codes " )")
+
+  pub entry_texts : Items (List ℕ) → List (List ℕ)
+  entry_texts none = []
+  entry_texts (item d ds) = entry_text d ∷ entry_texts ds
+
+-- an argument of Print: a text is written as it is
+abbrev pub text_of : Data (List ℕ) → List ℕ
+text_of (text bs) = bs
+text_of d = entry_text d
+
+-- a front of the text went to the end
+pub record AddsFront (old new bs : List ℕ) : Type 0 where
+  pub front : List ℕ
+  pub rest : List ℕ
+  pub whole : bs ≡ front ++ rest
+  pub added : new ≡ old ++ front
+
+-- the text went to the end, or after a refusal a front of it
+pub record Adds {E : Type 0} (result : Result (Unit {0}) E) (old new bs : List ℕ) : Type 0 where
+  pub ok : OnOk result (new ≡ old ++ bs)
+  pub err : AddsFront old new bs

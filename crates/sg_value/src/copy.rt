@@ -1,0 +1,33 @@
+//! Copies of values.
+
+ghost use Rattle.std.specs.Prelude.{◌≡◌, IfOk};
+ghost use Rattle.sg_value.specs.Plain.{contents, contents_of_all};
+
+use crate::value::Value;
+use std::alloc::{AllocError, Global};
+
+/// A value with the same contents.
+#[cycle(copy)]
+pub fn try_clone(v: &Value, alloc: Global) -> Result<Value, AllocError>
+    ensures { IfOk result (λ copy. contents copy ≡ contents v.now) }
+{
+    match v {
+        Value::Int(n) => Ok(Value::Int(*n)),
+        Value::Bool(b) => Ok(Value::Bool(*b)),
+        Value::Text(text) => Ok(Value::Text(text.try_clone()?)),
+        Value::List(items) => Ok(Value::List(copy_of_all(items, alloc)?)),
+        Value::Fail => Ok(Value::Fail),
+        Value::Sem(id) => Ok(Value::Sem(*id)),
+    }
+}
+
+#[cycle(copy)]
+fn copy_of_all(items: &[Value], alloc: Global) -> Result<Vec<Value>, AllocError>
+    ensures { IfOk result (λ copies. contents_of_all copies.items ≡ contents_of_all items.now) }
+{
+    let mut copies = Vec::with_capacity(alloc, items.len())?;
+    for item in items {
+        copies.push(try_clone(item, alloc)?)?;
+    }
+    Ok(copies)
+}

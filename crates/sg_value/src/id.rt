@@ -1,0 +1,37 @@
+//! Places in a store.
+
+ghost use Rattle.std.specs.Prelude.{◌≡◌};
+
+use std::marker::Model;
+
+/// A semigroup, by its place in a store. Contracts see it as that number.
+#[derive(Clone, Copy, Debug, PartialEq, Eq, Hash)]
+pub struct SemId {
+    index: usize,
+}
+
+impl Model for SemId {
+    ghost use Rattle.std.specs.Prelude.{ℕ};
+
+    ghost Value = { ℕ };
+
+    ghost view = { λ id. id.index };
+
+    ghost inverse = { λ n. record { index = n } };
+}
+
+impl SemId {
+    /// The id of this place.
+    pub fn new(index: usize) -> SemId
+        ensures { result ≡ index }
+    {
+        SemId { index }
+    }
+
+    /// The place.
+    pub fn index(&self) -> usize
+        ensures { result ≡ self.now }
+    {
+        self.index
+    }
+}
