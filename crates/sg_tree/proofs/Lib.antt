@@ -1,0 +1,2 @@
+pub mod ExpressionLevels
+pub mod StatementLevels
