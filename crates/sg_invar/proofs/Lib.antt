@@ -1,3 +1,5 @@
 pub mod MultiplicityLemmas
 pub mod FrobeniusLemmas
 pub mod GenusLemmas
+pub mod ListingLemmas
+pub mod GapLemmas

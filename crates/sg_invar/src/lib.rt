@@ -6,6 +6,8 @@
 //! are exactly the integers outside that every member above 0 moves inside.
 #![tactic(auto)]
 
+mod gap_lists;
 mod numbers;
 
+pub use gap_lists::{fundamental_gaps, gaps, small_elements};
 pub use numbers::{conductor, frobenius, genus};

@@ -1,6 +1,6 @@
 //! The Frobenius number, the conductor and the genus.
 
-ghost use Rattle.std.specs.Prelude.{◌^◌, ◌≤◌, pos, negsuc, ◌≤ℤ◌};
+ghost use Rattle.std.specs.Prelude.{◌^◌, ◌+◌, ◌≤◌, pos, negsuc, ◌≤ℤ◌};
 ghost use Rattle.sg_defs.specs.Invariants.{IsFrobenius, IsConductor, IsGenus};
 
 use sg_apery::Table;
@@ -22,7 +22,8 @@ pub fn frobenius(table: &Table) -> i64
 
 /// The least number from which on every integer is a member: the Frobenius number and 1. It takes no memory.
 pub fn conductor(table: &Table) -> u64
-    ensures { IsConductor table.now result }
+    ensures conductor { IsConductor table.now result }
+    ensures small { result ≤ 2 ^ 52 + 1 }
 {
     (frobenius(table) + 1) as u64
 }

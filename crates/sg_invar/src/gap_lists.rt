@@ -1,0 +1,70 @@
+//! The gaps, the small elements and the fundamental gaps, each as an ascending list, by a walk up to the conductor.
+
+ghost use Rattle.std.specs.Prelude.{◌<◌, ◌≤◌, ◌^◌, IfOk, IsTrue, ◌↔◌};
+ghost use Rattle.sg_defs.specs.Membership.{IsMember};
+ghost use Rattle.sg_defs.specs.Listings.{Lists};
+ghost use Rattle.sg_defs.specs.Invariants.{IsGap, AreSmallElements, IsFundamentalGap};
+
+use crate::numbers::conductor;
+use sg_apery::Table;
+use sg_nat::Nats;
+use std::alloc::{AllocError, Global};
+
+/// Whether a natural is a member.
+fn is_member(table: &Table, n: u64) -> bool
+    requires { n < 2 ^ 63 }
+    ensures { IsTrue result ↔ IsMember table.now n }
+{
+    table.contains(n as i64)
+}
+
+/// The naturals that are no members.
+pub fn gaps(alloc: Global, table: &Table) -> Result<Nats, AllocError>
+    ensures { IfOk result (Lists (IsGap table.now)) }
+{
+    let mut gaps = Nats::new(alloc);
+    for n in 0..conductor(table) {
+        if !is_member(table, n) {
+            gaps.push(n)?;
+        }
+    }
+    Ok(gaps)
+}
+
+/// The members up to the conductor, which is the last of them (Rosales and Garcia-Sanchez, section 2.3).
+pub fn small_elements(alloc: Global, table: &Table) -> Result<Nats, AllocError>
+    ensures { IfOk result (AreSmallElements table.now) }
+{
+    let mut members = Nats::new(alloc);
+    for n in 0..conductor(table) + 1 {
+        if is_member(table, n) {
+            members.push(n)?;
+        }
+    }
+    Ok(members)
+}
+
+/// Whether a number is a gap of which each multiple by 2 or more is a member. Twice and three times it are enough,
+/// since every greater multiple is a sum of these.
+fn is_fundamental_gap(table: &Table, n: u64) -> bool
+    requires { n ≤ 2 ^ 53 }
+    ensures { IsTrue result ↔ IsFundamentalGap table.now n }
+{
+    if is_member(table, n) {
+        return false;
+    }
+    is_member(table, 2 * n) && is_member(table, 3 * n)
+}
+
+/// The gaps of which each multiple by 2 or more is a member (Rosales and Garcia-Sanchez, section 4.1).
+pub fn fundamental_gaps(alloc: Global, table: &Table) -> Result<Nats, AllocError>
+    ensures { IfOk result (Lists (IsFundamentalGap table.now)) }
+{
+    let mut fundamental = Nats::new(alloc);
+    for n in 0..conductor(table) {
+        if is_fundamental_gap(table, n) {
+            fundamental.push(n)?;
+        }
+    }
+    Ok(fundamental)
+}
