@@ -1,1 +1,5 @@
 pub mod EqualLists
+pub mod Fronts
+pub mod Pieces
+pub mod Entries
+pub mod OneStore

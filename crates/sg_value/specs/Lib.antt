@@ -1,3 +1,4 @@
 pub mod Data
 pub mod Plain
 pub mod Text
+pub mod Laws

@@ -48,3 +48,7 @@ plain_of_all names vs = items_map (generators_at names) (contents_of_all vs)
 -- no two known places stand for the same list
 abbrev pub AreDistinct : Named → Type 0
 AreDistinct names = (i j : ℕ) (gens : List ℕ) → names i ≡ Some gens → names j ≡ Some gens → i ≡ j
+
+-- each place known before stands for what it stood for
+abbrev pub IsKept : Named → Named → Type 0
+IsKept old new = (i : ℕ) (gens : List ℕ) → old i ≡ Some gens → new i ≡ Some gens

@@ -1,5 +1,5 @@
 -- The text that `Print` writes for plain data.
-use Rattle.std.specs.Prelude.{ℕ, Bool, true, false, List, [], ◌∷◌, ◌++◌, codes, decimal, map, flat_map, if◌then◌else◌, ◌==◌, Result, OnOk, ◌≡◌}
+use Rattle.std.specs.Prelude.{ℕ, zero, suc, Bool, true, false, List, [], ◌∷◌, ◌++◌, codes, decimal, map, flat_map, if◌then◌else◌, ◌==◌, Result, OnOk, ◌≡◌}
 use Rattle.std.specs.List.{join_by}
 use Rattle.std.specs.Fmt.{signed_decimal}
 use Rattle.sg_value.specs.Data.{Data, int, truth, text, list, fail, semigroup, Items, none, item}
@@ -13,13 +13,26 @@ escaped b =
 abbrev pub quoted : List ℕ → List ℕ
 quoted bs = codes "\"" ++ (flat_map escaped bs ++ codes "\"")
 
+-- the texts, with a comma and a space between each two
+abbrev pub joined : List (List ℕ) → List ℕ
+joined texts = join_by (λ t. t) (codes ", ") texts
+
+-- what stands before the text with this index there
+abbrev pub separator : ℕ → List ℕ
+separator zero = []
+separator (suc i) = codes ", "
+
 -- a list whose entries have these texts; between the brackets of an empty one are two spaces
 abbrev pub bracketed : List (List ℕ) → List ℕ
-bracketed texts = codes "[ " ++ (join_by (λ t. t) (codes ", ") texts ++ codes " ]")
+bracketed texts = codes "[ " ++ (joined texts ++ codes " ]")
 
 -- a list of naturals
-abbrev pub numbers : List ℕ → List ℕ
-numbers ns = bracketed (map decimal ns)
+abbrev pub numbers_text : List ℕ → List ℕ
+numbers_text ns = bracketed (map decimal ns)
+
+-- a numerical semigroup with these minimal generators
+abbrev pub semigroup_text : List ℕ → List ℕ
+semigroup_text gens = codes "NumericalSemigroup( " ++ (numbers_text gens ++ codes " )")
 
 abbrev pub bool_text : Bool → List ℕ
 bool_text true = codes "true"
@@ -33,7 +46,7 @@ abbrev mutual
   entry_text (text bs) = quoted bs
   entry_text (list ds) = bracketed (entry_texts ds)
   entry_text fail = codes "fail"
-  entry_text (semigroup gens) = codes "NumericalSemigroup( " ++ (numbers gens ++ codes " )")
+  entry_text (semigroup gens) = semigroup_text gens
 
   pub entry_texts : Items (List ℕ) → List (List ℕ)
   entry_texts none = []

@@ -11,13 +11,17 @@
 mod copy;
 mod equality;
 mod id;
+pub mod laws;
 mod names;
+mod print;
 mod size;
+mod text;
 mod value;
 
 pub use copy::try_clone;
 pub use equality::equal;
 pub use id::SemId;
 pub use names::Names;
+pub use print::print_into;
 pub use size::{depth, weight};
 pub use value::Value;

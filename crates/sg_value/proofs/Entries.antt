@@ -1,0 +1,28 @@
+-- The entries of a list of values.
+use Rattle.std.proofs.Common.{◌≡◌, ℕ, ◌+◌, ◌<◌, ◌≤◌, zero, suc, List, [], ◌∷◌, ◌++◌, length, get_or, take, refl, ap, subst, sym, arith}
+use Rattle.sg_value.specs.Plain.{Named, AllKnown, AllKnownIn, plain, plain_of_all}
+use Rattle.sg_value.specs.Text.{entry_text, entry_texts, joined, separator}
+use Rattle.sg_value.proofs.Fronts.{IsNext}
+use Rattle.sg_value.proofs.Pieces.{joined-next}
+use Rattle.sg_value.specs.declared.value.Value.{Value}
+
+-- what is known in all entries is known in each
+pub AllKnownIn-at : (names : Named) (vs : List Value) (i : ℕ) (v d : Value) → AllKnownIn names vs → i < length vs → v ≡ get_or vs i d → AllKnown names v
+AllKnownIn-at names [] i v d all within is = absurd (omega arith)
+AllKnownIn-at names (w ∷ ws) zero v d all within is = subst (λ x. AllKnown names x) (sym is) all.0
+AllKnownIn-at names (w ∷ ws) (suc i) v d all within is = AllKnownIn-at names ws i v d all.1 (omega arith) is
+
+-- there is a text for each entry
+pub length-entry_texts : (names : Named) (vs : List Value) → length (entry_texts (plain_of_all names vs)) ≡ length vs
+length-entry_texts names [] = refl
+length-entry_texts names (v ∷ vs) = ap suc (length-entry_texts names vs)
+
+pub get_or-entry_texts : (names : Named) (vs : List Value) (i : ℕ) (v d : Value) → i < length vs → v ≡ get_or vs i d → get_or (entry_texts (plain_of_all names vs)) i [] ≡ entry_text (plain names v)
+get_or-entry_texts names [] i v d within is = absurd (omega arith)
+get_or-entry_texts names (w ∷ ws) zero v d within is = ap (λ x. entry_text (plain names x)) (sym is)
+get_or-entry_texts names (w ∷ ws) (suc i) v d within is = get_or-entry_texts names ws i v d (omega arith) is
+
+-- entry i among the entries of a list
+pub entries-next : (names : Named) (vs : List Value) (i : ℕ) (v d : Value) → i < length vs → v ≡ get_or vs i d
+    → IsNext (joined (take i (entry_texts (plain_of_all names vs)))) (separator i ++ entry_text (plain names v)) (joined (take (i + 1) (entry_texts (plain_of_all names vs)))) (joined (entry_texts (plain_of_all names vs)))
+entries-next names vs i v d within is = joined-next _ i _ [] (rw length-entry_texts within) (get_or-entry_texts names vs i v d within is)
