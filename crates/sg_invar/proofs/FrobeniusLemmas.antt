@@ -1,7 +1,7 @@
 -- The greatest entry of the Apery list and the modulus give the Frobenius number.
 use Rattle.std.proofs.Common.{◌≡◌, ℕ, zero, suc, ◌+◌, ◌-◌, ◌*◌, ◌%◌, ◌<◌, ◌≤◌, List, get_or, sym, subst, inl, inr, arith}
 use Rattle.std.proofs.Math.Nat.{mod-le}
-use Rattle.std.specs.Prelude.{max, ◌⊎◌, ℤ, pos, negsuc, ◌-ℤ◌, ◌<ℤ◌, ◌≤ℤ◌}
+use Rattle.std.specs.Prelude.{max, ℤ, pos, negsuc, ◌-ℤ◌, ◌<ℤ◌, ◌≤ℤ◌}
 use Rattle.std.proofs.lemmas.Bool.{cases_lt}
 use Rattle.std.proofs.lemmas.Int.{ints}
 use Rattle.std.proofs.lemmas.Nat.{mod_below}
@@ -9,6 +9,7 @@ use Rattle.sg_defs.specs.Membership.{IsMember, IsIntegerMember}
 use Rattle.sg_defs.specs.Apery.{IsAperyEntry}
 use Rattle.sg_defs.specs.Invariants.{IsFrobenius}
 use Rattle.sg_apery.proofs.AperyLemmas.{member-above, congruent-split}
+use Rattle.sg_invar.proofs.EntryLemmas.{entry-outside}
 use Rattle.sg_invar.proofs.MultiplicityLemmas.{multiplicity-member}
 
 -- the first entries so far, and the greatest of them
@@ -40,13 +41,6 @@ greatest-more G m n greatest w h e = elim (cases_lt greatest w) [
 pub greatest-all : (G : List ℕ) (m n greatest : ℕ) → m ≡ get_or G 0 0 → n ≡ m → IsGreatest G (get_or G 0 0) n greatest → IsGreatest G m m greatest
 greatest-all G m n greatest first all h = subst (λ k. IsGreatest G k m greatest) (sym first) (subst (λ n. IsGreatest G (get_or G 0 0) n greatest) all h)
 
--- the difference of two naturals is a natural or below 0
-minus_cases : (g m : ℕ) → ((y : ℕ) × (y + m ≡ g) × (pos g -ℤ pos m ≡ pos y)) ⊎ ((y : ℕ) × (g + suc y ≡ m) × (pos g -ℤ pos m ≡ negsuc y))
-minus_cases g m = elim (cases_lt g m) [
-  | inl less ↦ inr (m - suc g, omega arith, omega (arith, ints))
-  | inr more ↦ inl (g - m, omega arith, omega (arith, ints))
-]
-
 module _ (G : List ℕ) (m greatest : ℕ) (positive : 0 < m) (first : m ≡ get_or G 0 0) (h : IsGreatest G m m greatest) where
   modulus : IsMember G m
   modulus = multiplicity-member G m positive first
@@ -71,10 +65,7 @@ module _ (G : List ℕ) (m greatest : ℕ) (positive : 0 < m) (first : m ≡ get
   high = let e = h.each (m - 1) (omega arith) in omega (arith, mod-le e.0 m, e.1.residue, e.2)
 
   outside : IsIntegerMember G (pos greatest -ℤ pos m) → ⊥
-  outside q = elim (minus_cases greatest m) [
-    | inl p ↦ h.is_entry.least p.0 p.1 (subst (IsIntegerMember G) p.2 q)
-    | inr p ↦ subst (IsIntegerMember G) p.2 q
-  ]
+  outside = entry-outside G m h.place greatest h.is_entry
 
   over : (x : ℤ) → (pos greatest -ℤ pos m) <ℤ x → IsIntegerMember G x
   over (pos n) l = above n (omega (arith, ints, l))

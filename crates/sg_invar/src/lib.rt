@@ -8,6 +8,8 @@
 
 mod gap_lists;
 mod numbers;
+mod pseudo;
 
 pub use gap_lists::{fundamental_gaps, gaps, small_elements};
 pub use numbers::{conductor, frobenius, genus};
+pub use pseudo::pseudo_frobenius;

@@ -1,0 +1,60 @@
+-- A pseudo-Frobenius number is told by the generators, and is an entry of the Apery list less the multiplicity.
+use Rattle.std.proofs.Common.{◌≡◌, ℕ, ◌%◌, ◌<◌, ◌≤◌, List, length, get_or, ap, subst, inl, inr, arith}
+use Rattle.std.specs.Prelude.{ℤ, pos, negsuc, ◌+ℤ◌, ◌-ℤ◌, ◌<ℤ◌, ◌≤ℤ◌}
+use Rattle.std.specs.List.Sorted.{IsStrictlyIncreasing}
+use Rattle.std.proofs.lemmas.Bool.{cases_lt, cases_eq}
+use Rattle.std.proofs.lemmas.Int.{ints, by_lt_z}
+use Rattle.std.proofs.lemmas.List.Kept.{AllPairs-from_increasing}
+use Rattle.sg_defs.specs.Membership.{IsMember, IsIntegerMember, IsNumericalSemigroup}
+use Rattle.sg_defs.specs.Apery.{IsAperyEntry}
+use Rattle.sg_defs.specs.Invariants.{IsFrobenius, IsPseudoFrobenius}
+use Rattle.sg_defs.proofs.MembershipLemmas.{member-add, member-entry}
+use Rattle.sg_apery.proofs.GeneratorLemmas.{member-split}
+use Rattle.sg_invar.proofs.EntryLemmas.{entry-from_outside}
+use Rattle.sg_invar.specs.Maximal.{IsMaximalEntry}
+
+-- a member and a member
+pub integer_member-add : (G : List ℕ) (x : ℤ) (s : ℕ) → IsIntegerMember G x → IsMember G s → IsIntegerMember G (x +ℤ pos s)
+integer_member-add G (pos a) s p q = member-add G a s p q
+integer_member-add G (negsuc a) s p q = absurd p
+
+-- where each generator moves x to a member, so does each member above 0
+absorbed-from_generators : (G : List ℕ) (x : ℤ) → ((i : ℕ) → i < length G → IsIntegerMember G (x +ℤ pos (get_or G i 0))) →
+    (s : ℕ) → 0 < s → IsMember G s → IsIntegerMember G (x +ℤ pos s)
+absorbed-from_generators G x h s positive p = elim (member-split G s p) [
+  | inl none ↦ absurd (omega arith)
+  | inr q ↦
+      let g = get_or G q.0 0 in
+      let e : (x +ℤ pos g) +ℤ pos q.1 ≡ x +ℤ pos s = omega (arith, ints, q.4) in
+      subst (IsIntegerMember G) e (integer_member-add G (x +ℤ pos g) q.1 (h q.0 q.2) q.3)
+]
+
+pub pseudo_frobenius-from_generators : (G : List ℕ) (x : ℤ) → (IsIntegerMember G x → ⊥) → ((i : ℕ) → i < length G → IsIntegerMember G (x +ℤ pos (get_or G i 0))) → IsPseudoFrobenius G x
+pseudo_frobenius-from_generators G x outside h = record { outside = outside; absorbed = absorbed-from_generators G x h }
+
+pub pseudo_frobenius-generators : (G : List ℕ) (x : ℤ) → IsNumericalSemigroup G → IsPseudoFrobenius G x → (i : ℕ) → i < length G → IsIntegerMember G (x +ℤ pos (get_or G i 0))
+pseudo_frobenius-generators G x s p i l = p.absorbed (get_or G i 0) (omega (arith, s.positive i 0 l)) (member-entry G i l)
+
+-- what is no member is at most the Frobenius number
+pub outside-below : (G : List ℕ) (f x : ℤ) → IsFrobenius G f → (IsIntegerMember G x → ⊥) → x ≤ℤ f
+outside-below G f x h outside = by_lt_z f x (λ less. absurd (outside (h.above x less))) (λ more. more)
+
+-- where the k-th generator moves x past the Frobenius number, so does each later one
+pub absorbed-from_front : (G : List ℕ) (f x : ℤ) (k : ℕ) → IsFrobenius G f → IsStrictlyIncreasing G → f <ℤ (x +ℤ pos (get_or G k 0)) →
+    ((i : ℕ) → i < k → IsIntegerMember G (x +ℤ pos (get_or G i 0))) → (i : ℕ) → i < length G → IsIntegerMember G (x +ℤ pos (get_or G i 0))
+absorbed-from_front G f x k h up far front i inside = elim (cases_lt i k) [
+  | inl less ↦ front i less
+  | inr more ↦ h.above (x +ℤ pos (get_or G i 0)) (let a = later more in omega (arith, ints, far))
+]
+  where
+    later : k ≤ i → get_or G k 0 ≤ get_or G i 0
+    later l = elim (cases_eq k i) [
+      | inl e ↦ omega (arith, ap (λ j. get_or G j 0) e)
+      | inr other ↦ omega (arith, AllPairs-from_increasing G up k i 0 (omega arith) inside)
+    ]
+
+-- a pseudo-Frobenius number and the modulus is an entry of the Apery list
+pub maximal-entry : (G : List ℕ) (m w : ℕ) → 0 < m → IsMember G m → IsMaximalEntry G m w → IsAperyEntry G m (w % m) w
+maximal-entry G m w positive modulus p =
+    let e : (pos w -ℤ pos m) +ℤ pos m ≡ pos w = omega (arith, ints) in
+    entry-from_outside G m w (subst (IsIntegerMember G) e (p.absorbed m positive modulus)) p.outside

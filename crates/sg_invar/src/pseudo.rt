@@ -1,0 +1,75 @@
+//! The pseudo-Frobenius numbers and the special gaps.
+
+ghost use Rattle.std.specs.Prelude.{◌≡◌, ◌<◌, ◌≤◌, ◌^◌, ℕ, pos, neg_ℤ, ◌-ℤ◌, ◌≤ℤ◌, length, map, slice_index, EachIndex, IfOk, IsTrue, ◌↔◌};
+ghost use Rattle.sg_defs.specs.Listings.{ListsIntegers};
+ghost use Rattle.sg_defs.specs.Membership.{IsIntegerMember};
+ghost use Rattle.sg_defs.specs.Invariants.{IsFrobenius, IsPseudoFrobenius, IsSpecialGap};
+ghost use Rattle.sg_invar.specs.Maximal.{IsMaximalEntry, Collects};
+
+use crate::numbers::frobenius;
+use sg_apery::Table;
+use sg_nat::Ints;
+use std::alloc::{AllocError, Global};
+
+/// Whether a number outside is pseudo-Frobenius: each generator moves it to a member. The generators ascend, so the
+/// first that moves it past the Frobenius number ends the search.
+fn is_pseudo_frobenius(table: &Table, x: i64, frobenius: i64) -> bool
+    requires frobenius { IsFrobenius table.now frobenius }
+    requires high { frobenius ≤ℤ pos (2 ^ 52) }
+    requires outside { IsIntegerMember table.now x → ⊥ }
+    requires low { neg_ℤ (pos (2 ^ 20)) ≤ℤ x }
+    ensures { IsTrue result ↔ IsPseudoFrobenius table.now x }
+{
+    let reach = (frobenius - x) as u64;
+    for generator in table.generators().as_slice() {
+        if *generator > reach {
+            return true;
+        }
+        if !table.contains(x + *generator as i64) {
+            return false;
+        }
+    }
+    true
+}
+
+/// The maximal entries of the Apery list, in the order of their classes.
+fn maximal_entries(alloc: Global, table: &Table) -> Result<Vec<u64>, AllocError>
+    ensures { IfOk result (λ entries. Collects table.now (slice_index table.now 0) (slice_index table.now 0) entries.items) }
+{
+    let multiplicity = table.multiplicity();
+    let greatest_gap = frobenius(table);
+    let mut maximal = Vec::new(alloc);
+    for i in 0..multiplicity as usize {
+        let entry = table.entry(i);
+        let lowered = entry as i64 - multiplicity as i64;
+        if is_pseudo_frobenius(table, lowered, greatest_gap) {
+            maximal.push(entry)?;
+        }
+    }
+    Ok(maximal)
+}
+
+/// Each entry less a number.
+fn lowered(alloc: Global, entries: &[u64], by: u64) -> Result<Ints, AllocError>
+    requires entries { EachIndex entries.now (λ k. slice_index entries.now k ≤ 2 ^ 52) }
+    requires by { by ≤ 2 ^ 20 }
+    ensures { IfOk result (λ numbers. numbers ≡ map (λ entry. pos entry -ℤ pos by) entries.now) }
+{
+    let mut numbers = Ints::new(alloc);
+    for entry in entries {
+        numbers.push(*entry as i64 - by as i64)?;
+    }
+    Ok(numbers)
+}
+
+/// The integers outside that each member above 0 moves inside, in ascending order; their number is the type. They are
+/// the maximal entries of the Apery list less the multiplicity, where an entry is below another if their difference
+/// is a member (Rosales and Garcia-Sanchez, Proposition 2.20). It takes at most e m steps, for e generators and the
+/// multiplicity m.
+pub fn pseudo_frobenius(alloc: Global, table: &Table) -> Result<Ints, AllocError>
+    ensures { IfOk result (ListsIntegers (IsPseudoFrobenius table.now)) }
+{
+    let mut maximal = maximal_entries(alloc, table)?;
+    maximal.sort_unstable();
+    lowered(alloc, &maximal, table.multiplicity())
+}
