@@ -6,7 +6,7 @@ use Rattle.std.proofs.lemmas.Bool.{cases_lt}
 use Rattle.std.proofs.lemmas.Nat.Gcd.{dvd_refl, dvd_trans, le_of_dvd}
 use Rattle.sg_defs.specs.Membership.{IsNumericalSemigroup}
 use Rattle.sg_apery.proofs.ResidueLemmas.{common_divisor-one}
-use Rattle.sg_apery.specs.Arguments.{IsDivisorOfAll}
+use Rattle.sg_apery.specs.Generators.{IsDivisorOfAll}
 
 -- one more entry in the greatest common divisor
 pub divisor-more : (xs : List ℕ) (i g h d : ℕ) → IsGcd g (get_or xs i 0) h →

@@ -7,11 +7,12 @@ use Rattle.std.proofs.lemmas.Bool.{cases_eq}
 use Rattle.std.proofs.lemmas.List.Elements.{All-from_get_or}
 use Rattle.std.proofs.lemmas.List.Kept.{AllPairs-from_increasing}
 use Rattle.sg_defs.specs.Membership.{IsMember, IsNumericalSemigroup, Generates}
+use Rattle.sg_apery.proofs.OneListLemmas.{entry-listed}
 use Rattle.sg_apery.proofs.GeneratorLemmas.{contains-place, place-contains, member-listed, member-split, holds-from_entries}
 use Rattle.sg_defs.proofs.MembershipLemmas.{member-entry}
-use Rattle.sg_apery.specs.Arguments.{AreSmall, IsAccepted, IsRefused}
-use Rattle.sg_apery.specs.declared.table.TableFault.{TableFault}
-use Rattle.sg_apery.specs.declared.table.TableFault.TheVariants.{BadArgument, TooLarge, Memory}
+use Rattle.sg_apery.specs.Generators.{AreSmall, AreAccepted, AreRefused}
+use Rattle.sg_apery.specs.declared.fault.TableFault.{TableFault}
+use Rattle.sg_apery.specs.declared.fault.TableFault.TheVariants.{BadArgument, TooLarge, Memory}
 use Rattle.sg_apery.specs.Table.{IsTable, IsMinimalTable}
 
 -- what holds of each entry of ys holds of each entry of xs, where ys lists those
@@ -45,7 +46,7 @@ generates-same xs ys keeps adds_none M g = record {
   same = λ n. ((λ p. (g.same n).0 (member-same xs ys keeps adds_none n p)), (λ q. member-same ys xs adds_none keeps n ((g.same n).1 q)));
 }
 
-pub accepted-same : (xs ys : List ℕ) → ((x : ℕ) → Contains xs x → Contains ys x) → ((x : ℕ) → Contains ys x → Contains xs x) → IsAccepted ys → IsAccepted xs
+pub accepted-same : (xs ys : List ℕ) → ((x : ℕ) → Contains xs x → Contains ys x) → ((x : ℕ) → Contains ys x → Contains xs x) → AreAccepted ys → AreAccepted xs
 accepted-same xs ys keeps adds_none a = record {
   small = small-same xs ys keeps adds_none a.small;
   semigroup = semigroup-same xs ys keeps adds_none a.semigroup;
@@ -54,7 +55,7 @@ accepted-same xs ys keeps adds_none a = record {
       (p.0, p.1, omega (arith, a.least.2, p.2));
 }
 
-pub refused-same : (xs ys : List ℕ) → ((x : ℕ) → Contains xs x → Contains ys x) → ((x : ℕ) → Contains ys x → Contains xs x) → (f : TableFault) → IsRefused ys f → IsRefused xs f
+pub refused-same : (xs ys : List ℕ) → ((x : ℕ) → Contains xs x → Contains ys x) → ((x : ℕ) → Contains ys x → Contains xs x) → (f : TableFault) → AreRefused ys f → AreRefused xs f
 refused-same xs ys keeps adds_none BadArgument h = (small-same xs ys keeps adds_none h.0, (λ s. h.1 (semigroup-same ys xs adds_none keeps s)))
 refused-same xs ys keeps adds_none TooLarge h = elim h [
   | inl large ↦
@@ -86,8 +87,8 @@ first-same D M up s g =
     omega (arith, a, b)
 
 -- a table serves every list with the same members
-pub table-same : (D M t : List ℕ) → IsStrictlyIncreasing D → length t ≡ get_or D 0 0 → IsTable D t → Generates (IsMember D) M → IsMinimalTable M t
-table-same D M t up long h g = record {
+pub table-same : (D M t : List ℕ) → IsStrictlyIncreasing D → AreSmall D → length t ≡ get_or D 0 0 → IsTable D t → Generates (IsMember D) M → IsMinimalTable M t
+table-same D M t up all_small long h g = record {
   table = record {
     semigroup = g.semigroup;
     not_empty = h.not_empty;
@@ -102,5 +103,14 @@ table-same D M t up long h g = record {
     small = h.small;
   };
   minimal = g.minimal;
+  fit = record {
+    multiplicity = omega (arith, h.short, long, first-same D M up h.semigroup g);
+    small = each-kept (λ x. x < 2 ^ 32) M D listed all_small;
+  };
   multiplicity = long ∙ first-same D M up h.semigroup g;
 }
+  where
+    listed : (x : ℕ) → Contains M x → Contains D x
+    listed x c =
+        let p = contains-place M x c in
+        subst (Contains D) p.2 (entry-listed (IsMember D) M D g h.semigroup (λ n. ((λ q. q), (λ q. q))) p.0 p.1)

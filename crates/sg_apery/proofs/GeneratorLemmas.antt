@@ -11,7 +11,7 @@ use Rattle.std.proofs.lemmas.List.Edits.{get_or-remove_below, get_or-remove_abov
 use Rattle.std.proofs.lemmas.List.Kept.{AllPairs-from_increasing}
 use Rattle.std.proofs.Math.Nat.{dvd-add}
 use Rattle.sg_defs.specs.Membership.{IsMember, IsNumericalSemigroup, Generates, Holds}
-use Rattle.sg_apery.specs.Generators.{IsSpare}
+use Rattle.sg_apery.specs.Minimal.{IsSpare}
 use Rattle.sg_defs.proofs.MembershipLemmas.{member-zero, member-add, member-entry, member-induction}
 
 -- the place of an element, read with 0

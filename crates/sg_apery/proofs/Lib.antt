@@ -6,3 +6,4 @@ pub mod RelaxationLemmas
 pub mod ArgumentLemmas
 pub mod TableLemmas
 pub mod EntryLemmas
+pub mod SpanLemmas

@@ -1,10 +1,10 @@
 -- A set has one ascending list, and a numerical semigroup one minimal list.
 use Rattle.std.proofs.Common.{◌≡◌, ◌≢◌, ℕ, zero, suc, ◌+◌, ◌-◌, ◌<◌, List, [], ◌∷◌, length, get_or, refl, sym, ap, subst, ◌∙◌, inl, inr, arith}
-use Rattle.std.specs.Prelude.{Contains, remove, ◌⊎◌}
+use Rattle.std.specs.Prelude.{Contains, remove, ◌⊎◌, ◌↔◌}
 use Rattle.std.specs.List.Sorted.{IsStrictlyIncreasing}
 use Rattle.std.proofs.lemmas.Bool.{cases_lt, cases_eq}
 use Rattle.std.proofs.lemmas.List.Edits.{get_or-remove_below, get_or-remove_above, length-remove}
-use Rattle.sg_defs.specs.Membership.{IsMember, Generates}
+use Rattle.sg_defs.specs.Membership.{IsMember, IsNumericalSemigroup, Generates}
 use Rattle.sg_defs.specs.Listings.{Lists}
 use Rattle.sg_defs.proofs.MembershipLemmas.{member-zero, member-add, member-entry, member-induction}
 use Rattle.sg_apery.proofs.GeneratorLemmas.{contains-place, place-contains, member-split}
@@ -89,18 +89,18 @@ below-entry M k inside = member-induction (λ n. n < get_or M k 0 → IsMember (
     step i n l h less = member-add (remove M k) n (get_or M i 0) (h (omega arith)) (kept i l (omega arith))
 
 -- each entry of a minimal list stands in every list that generates the same
-entry-listed : (P : ℕ → Type 0) (M N : List ℕ) → Generates P M → Generates P N → (k : ℕ) → k < length M → Contains N (get_or M k 0)
-entry-listed P M N g h k inside =
+pub entry-listed : (P : ℕ → Type 0) (M N : List ℕ) → Generates P M → IsNumericalSemigroup N → ((n : ℕ) → P n ↔ IsMember N n) → (k : ℕ) → k < length M → Contains N (get_or M k 0)
+entry-listed P M N g s same k inside =
     let x = get_or M k 0 in
-    let in_n : IsMember N x = (h.same x).0 ((g.same x).1 (member-entry M k inside)) in
+    let in_n : IsMember N x = (same x).0 ((g.same x).1 (member-entry M k inside)) in
     elim (member-split N x in_n) [
       | inl e ↦ absurd (omega (arith, g.semigroup.positive k 0 inside, e))
       | inr p ↦ elim (cases_eq p.1 0) [
         | inl none ↦ subst (Contains N) (let e : get_or N p.0 0 ≡ x = omega (arith, p.4, none) in e) (place-contains N p.0 p.2)
         | inr some ↦
-            let first : IsMember M p.1 = (g.same p.1).0 ((h.same p.1).1 p.3) in
-            let second : IsMember M (get_or N p.0 0) = (g.same (get_or N p.0 0)).0 ((h.same (get_or N p.0 0)).1 (member-entry N p.0 p.2)) in
-            let a = below-entry M k inside p.1 first (omega (arith, p.4, h.semigroup.positive p.0 0 p.2)) in
+            let first : IsMember M p.1 = (g.same p.1).0 ((same p.1).1 p.3) in
+            let second : IsMember M (get_or N p.0 0) = (g.same (get_or N p.0 0)).0 ((same (get_or N p.0 0)).1 (member-entry N p.0 p.2)) in
+            let a = below-entry M k inside p.1 first (omega (arith, p.4, s.positive p.0 0 p.2)) in
             let b = below-entry M k inside (get_or N p.0 0) second (omega (arith, p.4, some)) in
             absurd (g.minimal.needed k inside (subst (IsMember (remove M k)) (sym p.4) (member-add (remove M k) p.1 (get_or N p.0 0) a b)))
       ]
@@ -108,5 +108,5 @@ entry-listed P M N g h k inside =
 
 pub one-minimal_list : (P : ℕ → Type 0) (M N : List ℕ) → Generates P M → Generates P N → M ≡ N
 one-minimal_list P M N g h = same-increasing M N g.minimal.ascending h.minimal.ascending
-    (λ x c. let p = contains-place M x c in subst (Contains N) p.2 (entry-listed P M N g h p.0 p.1))
-    (λ x c. let p = contains-place N x c in subst (Contains M) p.2 (entry-listed P N M h g p.0 p.1))
+    (λ x c. let p = contains-place M x c in subst (Contains N) p.2 (entry-listed P M N g h.semigroup h.same p.0 p.1))
+    (λ x c. let p = contains-place N x c in subst (Contains M) p.2 (entry-listed P N M h g.semigroup g.same p.0 p.1))

@@ -1,7 +1,32 @@
--- Which of given generators are needed.
-use Rattle.std.specs.Prelude.{ℕ, ◌-◌, ◌<◌, List, Contains}
-use Rattle.sg_defs.specs.Membership.{IsMember}
+-- When given generators are refused.
+use Rattle.std.specs.Prelude.{ℕ, ◌<◌, ◌≤◌, ◌⊎◌, List, length, slice_index, EachIndex}
+use Rattle.std.specs.Int.{◌∣◌}
+use Rattle.sg_defs.specs.Membership.{IsNumericalSemigroup}
+use Rattle.sg_apery.specs.declared.limits.TheConstants.{ENTRY_LIMIT, MULTIPLICITY_LIMIT}
+use Rattle.sg_apery.specs.declared.fault.TableFault.{TableFault}
+use Rattle.sg_apery.specs.declared.fault.TableFault.TheVariants.{BadArgument, TooLarge, Memory}
 
--- g is a lesser entry and a member
-abbrev pub IsSpare : List ℕ → ℕ → Type 0
-IsSpare D g = (h : ℕ) × Contains D h × (h < g) × IsMember D (g - h)
+-- d divides every entry
+abbrev pub IsDivisorOfAll : ℕ → List ℕ → Type 0
+IsDivisorOfAll d xs = (k : ℕ) → k < length xs → d ∣ slice_index xs k
+
+-- every entry is below the limit
+abbrev pub AreSmall : List ℕ → Type 0
+AreSmall given = EachIndex given (λ k. slice_index given k < ENTRY_LIMIT)
+
+-- an entry is past the limit
+abbrev pub HasLarge : List ℕ → Type 0
+HasLarge given = (k : ℕ) × (k < length given) × (ENTRY_LIMIT ≤ slice_index given k)
+
+-- what accepted generators are
+pub record AreAccepted (given : List ℕ) : Type 0 where
+  pub small : AreSmall given
+  pub semigroup : IsNumericalSemigroup given
+  pub least : (k : ℕ) × (k < length given) × (slice_index given k ≤ MULTIPLICITY_LIMIT)
+
+-- when each refusal comes: an entry past the limit, then a list that is no semigroup's, then a multiplicity past the limit
+abbrev pub AreRefused : List ℕ → TableFault → Type 0
+AreRefused given BadArgument = AreSmall given × (IsNumericalSemigroup given → ⊥)
+AreRefused given TooLarge = HasLarge given
+    ⊎ (AreSmall given × IsNumericalSemigroup given × EachIndex given (λ k. MULTIPLICITY_LIMIT < slice_index given k))
+AreRefused given (Memory e) = Unit {0}

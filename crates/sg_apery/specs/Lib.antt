@@ -1,4 +1,7 @@
+pub mod Entries
+pub mod Fit
 pub mod Generators
-pub mod Arguments
+pub mod Laws
+pub mod Minimal
 pub mod Relaxation
 pub mod Table

@@ -1,20 +1,22 @@
 -- What holds of a table while members are looked for in each residue class.
-use Rattle.std.specs.Prelude.{◌≡◌, ℕ, ◌+◌, ◌-◌, ◌*◌, ◌%◌, ◌^◌, ◌<◌, ◌≤◌, List, length, slice_index, count_by, nat_lt}
+use Rattle.std.specs.Prelude.{◌≡◌, ℕ, ◌+◌, ◌*◌, ◌%◌, ◌<◌, ◌≤◌, List, length, slice_index, count_by, nat_lt}
+use Rattle.sg_apery.specs.declared.limits.TheConstants.{ENTRY_LIMIT, MULTIPLICITY_LIMIT}
+use Rattle.sg_apery.specs.declared.relaxation.TheConstants.{UNREACHED}
 use Rattle.sg_defs.specs.Membership.{IsMember}
 
--- how many classes have a known member; in the others the entry is 2^64 - 1
+-- how many classes have a known member; in the others the entry is UNREACHED
 abbrev pub reached_count : List ℕ → ℕ
-reached_count t = count_by (λ x. nat_lt x (2 ^ 64 - 1)) t
+reached_count t = count_by (λ x. nat_lt x UNREACHED) t
 
 -- each known entry is a member of its class, and not too large
 pub record IsSound (G t : List ℕ) : Type 0 where
   pub not_empty : 0 < length t
-  pub short : length t ≤ 2 ^ 20
-  pub small : (j : ℕ) → j < length G → slice_index G j < 2 ^ 32
+  pub short : length t ≤ MULTIPLICITY_LIMIT
+  pub small : (j : ℕ) → j < length G → slice_index G j < ENTRY_LIMIT
   pub zero : slice_index t 0 ≡ 0
-  pub member : (i : ℕ) → i < length t → slice_index t i < 2 ^ 64 - 1 → IsMember G (slice_index t i)
-  pub residue : (i : ℕ) → i < length t → slice_index t i < 2 ^ 64 - 1 → slice_index t i % length t ≡ i
-  pub bound : (i : ℕ) → i < length t → slice_index t i < 2 ^ 64 - 1 → slice_index t i ≤ reached_count t * 2 ^ 32
+  pub member : (i : ℕ) → i < length t → slice_index t i < UNREACHED → IsMember G (slice_index t i)
+  pub residue : (i : ℕ) → i < length t → slice_index t i < UNREACHED → slice_index t i % length t ≡ i
+  pub bound : (i : ℕ) → i < length t → slice_index t i < UNREACHED → slice_index t i ≤ reached_count t * ENTRY_LIMIT
 
 -- generator j leads from entry i to no lower entry
 abbrev pub IsSettledAt : List ℕ → List ℕ → ℕ → ℕ → Type 0
@@ -22,4 +24,4 @@ IsSettledAt G t i j = slice_index t ((slice_index t i + slice_index G j) % lengt
 
 -- no generator lowers what entry i leads to
 abbrev pub IsSettled : List ℕ → List ℕ → ℕ → Type 0
-IsSettled G t i = slice_index t i < 2 ^ 64 - 1 → (j : ℕ) → j < length G → IsSettledAt G t i j
+IsSettled G t i = slice_index t i < UNREACHED → (j : ℕ) → j < length G → IsSettledAt G t i j

@@ -1,11 +1,26 @@
-//! Tests of the arguments of the constructors.
+//! Tests of given generators.
 
-ghost use Rattle.std.specs.Prelude.{◌≡◌, ◌<◌, ◌≤◌, ◌^◌, ℕ, length, All, Contains, EachIndex, slice_index, IsTrue, ◌↔◌};
+ghost use Rattle.std.specs.Prelude.{◌≡◌, ◌<◌, ◌≤◌, ℕ, length, All, slice_index, IsTrue, IsFalse, ◌↔◌};
 ghost use Rattle.std.specs.Int.{◌∣◌};
 ghost use Rattle.sg_defs.specs.Membership.{IsNumericalSemigroup};
-ghost use Rattle.sg_apery.specs.Arguments.{IsDivisorOfAll};
+ghost use Rattle.sg_apery.specs.Generators.{AreSmall, HasLarge, IsDivisorOfAll};
+ghost use Rattle.sg_apery.specs.Entries.{IsGreatest};
 
+use crate::limits::ENTRY_LIMIT;
 use sg_nat::gcd;
+
+/// Whether every entry is below the limit.
+pub fn are_small(entries: &[u64]) -> bool
+    ensures all { IsTrue result → AreSmall entries.now }
+    ensures one { IsFalse result → HasLarge entries.now }
+{
+    for entry in entries {
+        if *entry >= ENTRY_LIMIT {
+            return false;
+        }
+    }
+    true
+}
 
 /// The greatest common divisor of the entries, and 0 of no entries.
 fn common_divisor(entries: &[u64]) -> u64
@@ -38,15 +53,14 @@ pub fn is_numerical_semigroup(entries: &[u64]) -> bool
     common_divisor(entries) == 1
 }
 
-/// The least entry.
-pub fn least(entries: &[u64]) -> u64
+/// The greatest entry.
+pub fn greatest(entries: &[u64]) -> u64
     requires { 0 < length entries.now }
-    ensures listed { Contains entries.now result }
-    ensures least { EachIndex entries.now (λ k. result ≤ slice_index entries.now k) }
+    ensures { IsGreatest entries.now result }
 {
     let mut found = entries[0];
     for entry in entries {
-        if *entry < found {
+        if *entry > found {
             found = *entry;
         }
     }

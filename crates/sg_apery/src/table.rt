@@ -1,48 +1,19 @@
-//! The table of a numerical semigroup.
+//! The table of a numerical semigroup, and what it answers.
 
-ghost use Rattle.std.specs.Prelude.{◌≡◌, ◌<◌, ◌≤◌, ◌^◌, ℕ, ◌-◌, length, vec_len, EachIndex, slice_index, IfOk, OnOk, IfErr, IsFalse, IsTrue, ◌↔◌};
-ghost use Rattle.sg_defs.specs.Membership.{IsNumericalSemigroup, IsMember, IsIntegerMember, IsMinimal, Generates};
-ghost use Rattle.sg_defs.specs.Apery.{IsAperyEntry};
-ghost use Rattle.std.specs.List.Sorted.{IsStrictlyIncreasing};
-ghost use Rattle.sg_apery.specs.Table.{IsTable};
-ghost use Rattle.sg_apery.specs.Arguments.{AreSmall, IsAccepted, IsRefused};
+ghost use Rattle.std.specs.Prelude.{◌≡◌, ◌*◌, ◌<◌, ◌≤◌, length, EachIndex, slice_index, IsTrue, ◌↔◌};
+ghost use Rattle.sg_defs.specs.Membership.{IsNumericalSemigroup, IsIntegerMember, IsMinimal};
+ghost use Rattle.sg_defs.specs.Apery.{IsApery, IsAperyEntry};
+ghost use Rattle.sg_apery.specs.Fit.{IsFit, IsNarrow, IsSpan};
+ghost use Rattle.sg_apery.specs.Table.{IsMinimalTable};
 
-use crate::arguments::is_numerical_semigroup;
-use crate::generators::{minimal_part, sort_distinct};
-use crate::relaxation::{UNREACHED, relax_fully};
+use crate::arguments::greatest;
+use crate::limits::{ENTRY_LIMIT, MULTIPLICITY_LIMIT, NARROW_GENERATORS, NARROW_PRODUCT};
 use sg_nat::Nats;
-use std::alloc::{AllocError, Global};
 use std::marker::Model;
 
-/// Every entry lies below this number.
-pub const ENTRY_LIMIT: u64 = 4_294_967_296;
-
-/// The greatest multiplicity.
-pub const MULTIPLICITY_LIMIT: u64 = 1_048_576;
-
-/// Why a constructor gives no table.
-#[derive(Debug, Drop)]
-pub enum TableFault {
-    /// There is no such numerical semigroup.
-    BadArgument,
-    /// A number is past a limit.
-    TooLarge,
-    /// Memory ran out.
-    Memory(AllocError),
-}
-
-impl From<AllocError> for TableFault {
-    ghost use Rattle.std.specs.Prelude.{◌≡◌};
-    ghost use Rattle.sg_apery.specs.declared.table.TableFault.{TableFault};
-
-    ghost from_gives = { λ error fault. fault ≡ TableFault.Memory error };
-
-    fn from(error: AllocError) -> TableFault {
-        TableFault::Memory(error)
-    }
-}
-
-/// The members of a numerical semigroup by their residues modulo a member. Contracts see its generators.
+/// The minimal generators of a numerical semigroup, and its Apery list modulo the multiplicity: the least member in
+/// each residue class. Contracts see the minimal generators (Rosales and Garcia-Sanchez, Numerical Semigroups, 2009,
+/// sections 1.2 and 1.3).
 #[derive(Drop)]
 pub struct Table {
     generators: Nats,
@@ -61,83 +32,16 @@ impl Model for Table {
     ghost invariant = { λ t. IsMinimalTable t.generators t.apery.items };
 }
 
-/// Makes an empty table the Apery list modulo its length.
-fn fill(table: &mut [u64], generators: &[u64])
-    requires semigroup { IsNumericalSemigroup generators.now }
-    requires small { EachIndex generators.now (λ k. slice_index generators.now k < 2 ^ 32) }
-    requires not_empty { 0 < length table.old }
-    requires short { length table.old ≤ 2 ^ 20 }
-    requires modulus { IsMember generators.now (length table.old) }
-    requires unreached { EachIndex table.old (λ k. slice_index table.old k ≡ 2 ^ 64 - 1) }
-    ensures { IsTable generators.now table.new }
-{
-    table[0] = 0;
-    relax_fully(table, generators);
-}
-
-/// The least member in each residue class modulo a member.
-fn apery_list(alloc: Global, generators: &[u64], modulus: u64) -> Result<Vec<u64>, AllocError>
-    requires semigroup { IsNumericalSemigroup generators.now }
-    requires small { EachIndex generators.now (λ k. slice_index generators.now k < 2 ^ 32) }
-    requires positive { 0 < modulus }
-    requires short { modulus ≤ 2 ^ 20 }
-    requires modulus { IsMember generators.now modulus }
-    ensures table { IfOk result (λ t. IsTable generators.now t.items) }
-    ensures length { IfOk result (λ t. vec_len t ≡ modulus) }
-{
-    let mut table = vec![in alloc; UNREACHED; modulus as usize]?;
-    fill(&mut table, generators);
-    Ok(table)
-}
-
-/// Whether every entry is below the limit.
-fn are_small(entries: &[u64]) -> bool
-    ensures all { IsTrue result → AreSmall entries.now }
-    ensures one { IsFalse result → (k : ℕ) × (k < length entries.now) × (2 ^ 32 ≤ slice_index entries.now k) }
-{
-    for entry in entries {
-        if *entry >= ENTRY_LIMIT {
-            return false;
-        }
-    }
-    true
-}
-
-/// The table of ascending entries.
-fn from_distinct(alloc: Global, entries: &[u64]) -> Result<Table, TableFault>
-    requires { IsStrictlyIncreasing entries.now }
-    ensures generated { IfOk result (λ table. Generates (IsMember entries.now) table) }
-    ensures accepted { OnOk result (IsAccepted entries.now) }
-    ensures refused { IfErr result (IsRefused entries.now) }
-{
-    if !are_small(entries) {
-        return Err(TableFault::TooLarge);
-    }
-    if !is_numerical_semigroup(entries) {
-        return Err(TableFault::BadArgument);
-    }
-    let multiplicity = entries[0];
-    if multiplicity > MULTIPLICITY_LIMIT {
-        return Err(TableFault::TooLarge);
-    }
-    let apery = apery_list(alloc, entries, multiplicity)?;
-    let generators = minimal_part(alloc, &apery, entries)?;
-    Ok(Table { generators, apery })
-}
-
 impl Table {
-    /// The numerical semigroup that the entries generate.
-    pub fn from_generators(alloc: Global, given: &[u64]) -> Result<Table, TableFault>
-        ensures generated { IfOk result (λ table. Generates (IsMember given.now) table) }
-        ensures accepted { OnOk result (IsAccepted given.now) }
-        ensures refused { IfErr result (IsRefused given.now) }
+    /// Joins minimal generators and their Apery list.
+    pub(crate) fn from_parts(generators: Nats, apery: Vec<u64>) -> Table
+        requires { IsMinimalTable generators apery.items }
+        ensures { result ≡ generators }
     {
-        let mut entries = Vec::from_slice(alloc, given)?;
-        sort_distinct(&mut entries);
-        from_distinct(alloc, &entries)
+        Table { generators, apery }
     }
 
-    /// Whether a number is a member.
+    /// Whether an integer is a member, by one comparison. It takes no memory.
     pub fn contains(&self, x: i64) -> bool
         ensures { IsTrue result ↔ IsIntegerMember self.now x }
     {
@@ -148,30 +52,58 @@ impl Table {
         self.apery[(n % self.apery.len() as u64) as usize] <= n
     }
 
-    /// The minimal generators.
+    /// The minimal generators, ascending.
     pub fn generators(&self) -> &Nats
         ensures same { result.now ≡ self.now }
         ensures semigroup { IsNumericalSemigroup self.now }
         ensures minimal { IsMinimal self.now }
+        ensures fit { IsFit self.now }
     {
         &self.generators
     }
 
-    /// The least generator.
+    /// The least member above 0, which is the first generator.
     pub fn multiplicity(&self) -> u64
         ensures first { result ≡ slice_index self.now 0 }
         ensures positive { 0 < result }
-        ensures small { result ≤ 2 ^ 20 }
+        ensures small { result ≤ MULTIPLICITY_LIMIT }
     {
         self.apery.len() as u64
     }
 
-    /// The least member in residue class `i` modulo the multiplicity.
+    /// The Apery list modulo the multiplicity: entry `i` is the least member congruent to `i`.
+    pub fn apery(&self) -> &[u64]
+        ensures entries { length result.now ≡ slice_index self.now 0 }
+        ensures apery { IsApery self.now (slice_index self.now 0) result.now }
+        ensures small { EachIndex result.now (λ i. slice_index result.now i ≤ MULTIPLICITY_LIMIT * ENTRY_LIMIT) }
+    {
+        self.apery.as_slice()
+    }
+
+    /// The least member congruent to `i` modulo the multiplicity. It takes no memory.
     pub fn entry(&self, i: usize) -> u64
         requires { i < slice_index self.now 0 }
         ensures entry { IsAperyEntry self.now (slice_index self.now 0) i result }
-        ensures small { result ≤ 2 ^ 52 }
+        ensures small { result ≤ MULTIPLICITY_LIMIT * ENTRY_LIMIT }
     {
         self.apery[i]
+    }
+
+    /// The Frobenius number, the multiplicity and the greatest generator together. The first two are the greatest
+    /// entry of the Apery list (Rosales and Garcia-Sanchez, Proposition 2.12). It takes no memory.
+    pub fn span(&self) -> u64
+        ensures { IsSpan self.now result }
+    {
+        let generators = self.generators.as_slice();
+        greatest(&self.apery) + generators[generators.len() - 1]
+    }
+
+    /// Whether there are so few generators, and the multiplicity is so small, that factorizations are listed. It takes
+    /// no memory.
+    pub fn narrow(&self) -> bool
+        ensures { IsTrue result ↔ IsNarrow self.now }
+    {
+        let generators = self.generators.len() as u64;
+        generators <= NARROW_GENERATORS && self.apery.len() as u64 * generators <= NARROW_PRODUCT
     }
 }

@@ -2,7 +2,7 @@ use Rattle.std.proofs.Common.{◌≡◌, ℕ, List, sym, subst}
 use Rattle.std.specs.Prelude.{Contains}
 use Rattle.std.proofs.lemmas.Result.{IfOk-weaker, IfErr-weaker, on_ok_weaker}
 use Rattle.sg_defs.specs.Membership.{IsMember, Generates}
-use Rattle.sg_apery.specs.Arguments.{IsRefused}
+use Rattle.sg_apery.specs.Generators.{AreRefused}
 use Rattle.sg_apery.proofs.EntryLemmas.{generates-same, accepted-same, refused-same}
 use Rattle.sg_apery.proofs.table.Table.from_generators.Goals as goal
 
@@ -35,4 +35,4 @@ returns-clause-refused c =
     let ys = c.deref.result.now in
     let k = keeps given c.in_ok-entries.entries.items c.sort_distinct.new.entries.items ys c.in_ok-entries.ensures.items c.deref.ensures.value c.sort_distinct.ensures.keeps in
     let a = adds_none given c.in_ok-entries.entries.items c.sort_distinct.new.entries.items ys c.in_ok-entries.ensures.items c.deref.ensures.value c.sort_distinct.ensures.adds_none in
-    IfErr-weaker c.from_distinct.result (IsRefused ys) (IsRefused given) (refused-same given ys k a) c.from_distinct.ensures.refused
+    IfErr-weaker c.from_distinct.result (AreRefused ys) (AreRefused given) (refused-same given ys k a) c.from_distinct.ensures.refused

@@ -1,6 +1,6 @@
 use Rattle.std.proofs.Common.{ℕ, ◌<◌, ◌-◌, slice_index}
 use Rattle.sg_defs.specs.Membership.{IsMember}
-use Rattle.sg_apery.proofs.generators.is_spare.Given as goal
+use Rattle.sg_apery.proofs.minimal.is_spare.Given as goal
 
 -- no entry so far makes it spare
 abbrev pub invariant-loop-other : goal.invariant-loop-other

@@ -1,7 +1,7 @@
 use Rattle.std.proofs.Common.{refl, arith}
 use Rattle.sg_apery.proofs.GeneratorLemmas.{part-none, part-push, part-skip, generates-part}
-use Rattle.sg_apery.proofs.generators.minimal_part.Goals as goal
-use Rattle.sg_apery.proofs.generators.minimal_part.Goals.{then-not-is_spare+in_ok-push, else-not-is_spare}
+use Rattle.sg_apery.proofs.minimal.minimal_part.Goals as goal
+use Rattle.sg_apery.proofs.minimal.minimal_part.Goals.{then-not-is_spare+in_ok-push, else-not-is_spare}
 
 pub loop-entry-init : goal.loop-entry-init
 loop-entry-init c = rw c.new-minimal.ensures (part-none c.args.entries.now)

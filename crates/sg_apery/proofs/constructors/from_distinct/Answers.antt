@@ -1,7 +1,7 @@
 use Rattle.std.proofs.Common.{◌≡◌, ◌∙◌, sym, inr, arith, rules, refl, length, vec_len}
 use Rattle.sg_defs.proofs.MembershipLemmas.{member-entry}
 use Rattle.sg_apery.proofs.EntryLemmas.{first-least, table-same}
-use Rattle.sg_apery.proofs.table.from_distinct.Goals as goal
+use Rattle.sg_apery.proofs.constructors.from_distinct.Goals as goal
 
 pub returns-then-multiplicity-gt-MULTIPLICITY_LIMIT-clause-refused : goal.returns-then-multiplicity-gt-MULTIPLICITY_LIMIT-clause-refused
 returns-then-multiplicity-gt-MULTIPLICITY_LIMIT-clause-refused c =
@@ -14,7 +14,7 @@ apery_list-requires-clause-modulus c = member-entry c.args.entries.now 0 (c.if-n
 pub minimal_part-requires-clause-table : goal.minimal_part-requires-clause-table
 minimal_part-requires-clause-table c = rw c.deref.ensures.value c.in_ok-apery.ensures.table
 
-pub invariant_of-result : goal.invariant_of-result
-invariant_of-result c =
+pub from_parts-requires : goal.from_parts-requires
+from_parts-requires c =
     let len : vec_len c.in_ok-apery.apery ≡ length c.in_ok-apery.apery.items = search rules in
-    table-same c.args.entries.now c.in_ok-generators.generators c.in_ok-apery.apery.items c.requires (sym len ∙ c.in_ok-apery.ensures.length) c.in_ok-apery.ensures.table c.in_ok-generators.ensures
+    table-same c.args.entries.now c.in_ok-generators.generators c.in_ok-apery.apery.items c.requires (c.if-not-are_small.ensures.all refl) (sym len ∙ c.in_ok-apery.ensures.length) c.in_ok-apery.ensures.table c.in_ok-generators.ensures

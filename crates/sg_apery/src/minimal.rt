@@ -4,7 +4,7 @@ ghost use Rattle.std.specs.Prelude.{◌≡◌, ◌<◌, ◌≤◌, ◌%◌, ◌-
 ghost use Rattle.std.specs.List.Sorted.{IsStrictlyIncreasing};
 ghost use Rattle.sg_defs.specs.Membership.{IsMember, Generates};
 ghost use Rattle.sg_apery.specs.Table.{IsTable};
-ghost use Rattle.sg_apery.specs.Generators.{IsSpare};
+ghost use Rattle.sg_apery.specs.Minimal.{IsSpare};
 
 use sg_nat::Nats;
 use std::alloc::{AllocError, Global};

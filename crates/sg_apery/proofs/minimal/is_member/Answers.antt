@@ -1,7 +1,7 @@
 use Rattle.std.proofs.Common.{◌%◌, length, get_or}
 use Rattle.std.proofs.lemmas.Bool.{leb-true, le-leb}
 use Rattle.sg_apery.proofs.AperyLemmas.{apery-member}
-use Rattle.sg_apery.proofs.generators.is_member.Goals as goal
+use Rattle.sg_apery.proofs.minimal.is_member.Goals as goal
 
 pub returns : goal.returns
 returns c =

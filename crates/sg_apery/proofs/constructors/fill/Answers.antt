@@ -2,7 +2,7 @@ use Rattle.std.proofs.Common.{◌≡◌, length, subst, arith}
 use Rattle.std.proofs.lemmas.List.{length-set}
 use Rattle.sg_defs.specs.Membership.{IsMember}
 use Rattle.sg_apery.proofs.TableLemmas.{IsSound-first, IsTable-settled}
-use Rattle.sg_apery.proofs.table.fill.Goals as goal
+use Rattle.sg_apery.proofs.constructors.fill.Goals as goal
 
 pub relax_fully-requires : goal.relax_fully-requires
 relax_fully-requires c = record {

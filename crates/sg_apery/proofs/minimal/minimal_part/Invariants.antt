@@ -1,5 +1,5 @@
 use Rattle.sg_apery.proofs.GeneratorLemmas.{IsPartOf}
-use Rattle.sg_apery.proofs.generators.minimal_part.Given as goal
+use Rattle.sg_apery.proofs.minimal.minimal_part.Given as goal
 
 -- the minimal part of the entries so far
 abbrev pub invariant-loop-entry : goal.invariant-loop-entry

@@ -1,0 +1,18 @@
+-- Which semigroups have a table, and which are small enough for the work that grows with them.
+use Rattle.std.specs.Prelude.{◌≡◌, ℕ, pos, ◌+ℤ◌, ◌-◌, ◌*◌, ◌<◌, ◌≤◌, ℤ, List, length, slice_index, EachIndex}
+use Rattle.sg_defs.specs.Invariants.{IsFrobenius}
+use Rattle.sg_apery.specs.declared.limits.TheConstants.{ENTRY_LIMIT, MULTIPLICITY_LIMIT, NARROW_GENERATORS, NARROW_PRODUCT}
+
+-- the multiplicity and each minimal generator are within the limits
+pub record IsFit (M : List ℕ) : Type 0 where
+  pub multiplicity : slice_index M 0 ≤ MULTIPLICITY_LIMIT
+  pub small : EachIndex M (λ k. slice_index M k < ENTRY_LIMIT)
+
+-- the Frobenius number, the multiplicity and the greatest minimal generator together
+abbrev pub IsSpan : List ℕ → ℕ → Type 0
+IsSpan M s = (f : ℤ) × IsFrobenius M f × (pos s ≡ ((f +ℤ pos (slice_index M 0)) +ℤ pos (slice_index M (length M - 1))))
+
+-- so few minimal generators, and so small a multiplicity, that factorizations are listed
+pub record IsNarrow (M : List ℕ) : Type 0 where
+  pub generators : length M ≤ NARROW_GENERATORS
+  pub product : slice_index M 0 * length M ≤ NARROW_PRODUCT

@@ -1,0 +1,84 @@
+//! The semigroup that given numbers generate.
+
+ghost use Rattle.std.specs.Prelude.{◌≡◌, ◌<◌, ◌≤◌, length, vec_len, EachIndex, slice_index, IfOk, OnOk, IfErr};
+ghost use Rattle.std.specs.List.Sorted.{IsStrictlyIncreasing};
+ghost use Rattle.sg_defs.specs.Membership.{IsNumericalSemigroup, IsMember, Generates};
+ghost use Rattle.sg_apery.specs.Generators.{AreAccepted, AreRefused, AreSmall};
+ghost use Rattle.sg_apery.specs.Table.{IsTable};
+
+use crate::arguments::{are_small, is_numerical_semigroup};
+use crate::fault::TableFault;
+use crate::limits::MULTIPLICITY_LIMIT;
+use crate::minimal::{minimal_part, sort_distinct};
+use crate::relaxation::{UNREACHED, relax_fully};
+use crate::table::Table;
+use std::alloc::{AllocError, Global};
+
+/// Makes an empty table the Apery list modulo its length.
+fn fill(table: &mut [u64], generators: &[u64])
+    requires semigroup { IsNumericalSemigroup generators.now }
+    requires small { AreSmall generators.now }
+    requires not_empty { 0 < length table.old }
+    requires short { length table.old ≤ MULTIPLICITY_LIMIT }
+    requires modulus { IsMember generators.now (length table.old) }
+    requires unreached { EachIndex table.old (λ k. slice_index table.old k ≡ UNREACHED) }
+    ensures { IsTable generators.now table.new }
+{
+    table[0] = 0;
+    relax_fully(table, generators);
+}
+
+/// The least member in each residue class modulo a member.
+fn apery_list(alloc: Global, generators: &[u64], modulus: u64) -> Result<Vec<u64>, AllocError>
+    requires semigroup { IsNumericalSemigroup generators.now }
+    requires small { AreSmall generators.now }
+    requires positive { 0 < modulus }
+    requires short { modulus ≤ MULTIPLICITY_LIMIT }
+    requires modulus { IsMember generators.now modulus }
+    ensures table { IfOk result (λ t. IsTable generators.now t.items) }
+    ensures length { IfOk result (λ t. vec_len t ≡ modulus) }
+{
+    let mut table = vec![in alloc; UNREACHED; modulus as usize]?;
+    fill(&mut table, generators);
+    Ok(table)
+}
+
+/// The table of ascending generators.
+fn from_distinct(alloc: Global, entries: &[u64]) -> Result<Table, TableFault>
+    requires { IsStrictlyIncreasing entries.now }
+    ensures generated { IfOk result (λ table. Generates (IsMember entries.now) table) }
+    ensures accepted { OnOk result (AreAccepted entries.now) }
+    ensures refused { IfErr result (AreRefused entries.now) }
+{
+    if !are_small(entries) {
+        return Err(TableFault::TooLarge);
+    }
+    if !is_numerical_semigroup(entries) {
+        return Err(TableFault::BadArgument);
+    }
+    let multiplicity = entries[0];
+    if multiplicity > MULTIPLICITY_LIMIT {
+        return Err(TableFault::TooLarge);
+    }
+    let apery = apery_list(alloc, entries, multiplicity)?;
+    let generators = minimal_part(alloc, &apery, entries)?;
+    Ok(Table::from_parts(generators, apery))
+}
+
+impl Table {
+    /// The numerical semigroup that the given numbers generate, in any order and with repeats: the sums of their
+    /// multiples. It is one exactly where they are positive with greatest common divisor 1 (Rosales and Garcia-Sanchez,
+    /// Lemma 2.1).
+    ///
+    /// TooLarge where a number is at or past `ENTRY_LIMIT`; then BadArgument where none is given, one is 0 or their
+    /// greatest common divisor is not 1; then TooLarge where the least passes `MULTIPLICITY_LIMIT`.
+    pub fn from_generators(alloc: Global, given: &[u64]) -> Result<Table, TableFault>
+        ensures generated { IfOk result (λ table. Generates (IsMember given.now) table) }
+        ensures accepted { OnOk result (AreAccepted given.now) }
+        ensures refused { IfErr result (AreRefused given.now) }
+    {
+        let mut entries = Vec::from_slice(alloc, given)?;
+        sort_distinct(&mut entries);
+        from_distinct(alloc, &entries)
+    }
+}

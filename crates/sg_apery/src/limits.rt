@@ -1,0 +1,16 @@
+//! The numbers that limit a table, and what it is used for.
+
+/// Each minimal generator lies below this number, and so does each given generator.
+pub const ENTRY_LIMIT: u64 = 4_294_967_296;
+
+/// The greatest multiplicity of a table.
+pub const MULTIPLICITY_LIMIT: u64 = 1_048_576;
+
+/// The greatest span for which the members up to the conductor are listed.
+pub const SPAN_LIMIT: u64 = 16_777_216;
+
+/// The greatest number of minimal generators of a semigroup whose factorizations are listed.
+pub const NARROW_GENERATORS: u64 = 64;
+
+/// The greatest product of the multiplicity and the number of minimal generators of such a semigroup.
+pub const NARROW_PRODUCT: u64 = 1_048_576;
