@@ -6,3 +6,4 @@ pub mod ListingLemmas
 pub mod GapLemmas
 pub mod PseudoFrobeniusLemmas
 pub mod MaximalLemmas
+pub mod SelectionLemmas

@@ -1,5 +1,5 @@
 -- A pseudo-Frobenius number is told by the generators, and is an entry of the Apery list less the multiplicity.
-use Rattle.std.proofs.Common.{◌≡◌, ℕ, ◌%◌, ◌<◌, ◌≤◌, List, length, get_or, ap, subst, inl, inr, arith}
+use Rattle.std.proofs.Common.{◌≡◌, ℕ, ◌%◌, ◌<◌, ◌≤◌, List, length, get_or, ap, subst, inl, inr, refl, arith}
 use Rattle.std.specs.Prelude.{ℤ, pos, negsuc, ◌+ℤ◌, ◌-ℤ◌, ◌<ℤ◌, ◌≤ℤ◌}
 use Rattle.std.specs.List.Sorted.{IsStrictlyIncreasing}
 use Rattle.std.proofs.lemmas.Bool.{cases_lt, cases_eq}
@@ -58,3 +58,16 @@ pub maximal-entry : (G : List ℕ) (m w : ℕ) → 0 < m → IsMember G m → Is
 maximal-entry G m w positive modulus p =
     let e : (pos w -ℤ pos m) +ℤ pos m ≡ pos w = omega (arith, ints) in
     entry-from_outside G m w (subst (IsIntegerMember G) e (p.absorbed m positive modulus)) p.outside
+
+-- below 0 there is at most the Frobenius number: the difference of the two would be a greater number, and a member
+pub pseudo_frobenius-low : (G : List ℕ) (f x : ℤ) → IsFrobenius G f → negsuc 0 ≤ℤ f → IsPseudoFrobenius G x → negsuc 0 ≤ℤ x
+pseudo_frobenius-low G f x h low p = by_lt_z x (negsuc 0) below (λ more. more)
+  where
+    below : x <ℤ negsuc 0 → negsuc 0 ≤ℤ x
+    below less = gap (f -ℤ x) refl (let e : f <ℤ (f -ℤ x) = omega (arith, ints) in h.above (f -ℤ x) e)
+      where
+        gap : (y : ℤ) → y ≡ f -ℤ x → IsIntegerMember G y → negsuc 0 ≤ℤ x
+        gap (negsuc a) e q = absurd q
+        gap (pos a) e q =
+            let back : x +ℤ pos a ≡ f = omega (arith, ints) in
+            absurd (h.outside (subst (IsIntegerMember G) back (p.absorbed a (omega (arith, ints)) q)))

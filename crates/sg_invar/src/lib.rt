@@ -12,4 +12,4 @@ mod pseudo;
 
 pub use gap_lists::{fundamental_gaps, gaps, small_elements};
 pub use numbers::{conductor, frobenius, genus};
-pub use pseudo::pseudo_frobenius;
+pub use pseudo::{pseudo_frobenius, special_gaps};

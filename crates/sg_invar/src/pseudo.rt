@@ -1,6 +1,6 @@
 //! The pseudo-Frobenius numbers and the special gaps.
 
-ghost use Rattle.std.specs.Prelude.{◌≡◌, ◌<◌, ◌≤◌, ◌^◌, ℕ, pos, neg_ℤ, ◌-ℤ◌, ◌≤ℤ◌, length, map, slice_index, EachIndex, IfOk, IsTrue, ◌↔◌};
+ghost use Rattle.std.specs.Prelude.{◌≡◌, ◌<◌, ◌≤◌, ◌^◌, ℕ, pos, negsuc, neg_ℤ, ◌+ℤ◌, ◌-ℤ◌, ◌≤ℤ◌, length, map, slice_index, EachIndex, IfOk, IsTrue, ◌↔◌};
 ghost use Rattle.sg_defs.specs.Listings.{ListsIntegers};
 ghost use Rattle.sg_defs.specs.Membership.{IsIntegerMember};
 ghost use Rattle.sg_defs.specs.Invariants.{IsFrobenius, IsPseudoFrobenius, IsSpecialGap};
@@ -72,4 +72,32 @@ pub fn pseudo_frobenius(alloc: Global, table: &Table) -> Result<Ints, AllocError
     let mut maximal = maximal_entries(alloc, table)?;
     maximal.sort_unstable();
     lowered(alloc, &maximal, table.multiplicity())
+}
+
+/// Whether twice a number is a member. Where that is past the Frobenius number it needs no look-up.
+fn has_double(table: &Table, x: i64, frobenius: i64) -> bool
+    requires frobenius { IsFrobenius table.now frobenius }
+    requires high { frobenius ≤ℤ pos (2 ^ 52) }
+    requires low { negsuc 0 ≤ℤ x }
+    requires below { x ≤ℤ frobenius }
+    ensures { IsTrue result ↔ IsIntegerMember table.now (x +ℤ x) }
+{
+    let double = x + x;
+    double > frobenius || table.contains(double)
+}
+
+/// The pseudo-Frobenius numbers whose double is a member, in ascending order: those that give a numerical semigroup
+/// where they are added (Rosales and Garcia-Sanchez, section 3.2). `pf` are the table's pseudo-Frobenius numbers.
+pub fn special_gaps(alloc: Global, table: &Table, pf: &Ints) -> Result<Ints, AllocError>
+    requires { ListsIntegers (IsPseudoFrobenius table.now) pf.now }
+    ensures { IfOk result (ListsIntegers (IsSpecialGap table.now)) }
+{
+    let greatest_gap = frobenius(table);
+    let mut special = Ints::new(alloc);
+    for x in pf.as_slice() {
+        if has_double(table, *x, greatest_gap) {
+            special.push(*x)?;
+        }
+    }
+    Ok(special)
 }
