@@ -2,7 +2,7 @@
 use Rattle.std.proofs.Common.{◌≡◌, ℕ, zero, suc, ◌+◌, ◌*◌, ◌/◌, ◌%◌, ◌<◌, ◌≤◌, List, [], ◌∷◌, length, get_or, refl, sym, ap, subst, ◌∙◌, arith}
 use Rattle.std.specs.Int.{◌∣◌, IsGcd}
 use Rattle.std.proofs.lemmas.Nat.{mod_below}
-use Rattle.std.proofs.lemmas.Nat.Gcd.{IsGcd-from_mod, IsGcd-from_zero, dvd_trans, mod-eq-zero_of_dvd}
+use Rattle.std.proofs.lemmas.Nat.Gcd.{IsGcd-from_mod, IsGcd-from_zero, dvd_trans, mod-eq-zero_of_dvd, le_of_dvd}
 use Rattle.std.proofs.lemmas.List.Elements.{All-from_get_or}
 use Rattle.std.proofs.Math.Nat.{mod-add-div, mod-add-mod, mod-zero, add-mul-mod_self_right, mod-eq_of_lt}
 use Rattle.sg_defs.specs.Membership.{IsMember, IsNumericalSemigroup}
@@ -58,6 +58,11 @@ reached-divisor G p (g ∷ gs) h =
 -- what 0 divides is 0
 zero_divides : (n : ℕ) → 0 ∣ n → n ≡ 0
 zero_divides n h = sym (mod-zero n) ∙ mod-eq-zero_of_dvd 0 h
+
+-- a greatest common divisor with a number above 0 is above 0 and at most that number
+pub gcd-range : (a n d : ℕ) → 0 < n → IsGcd a n d → (0 < d) × (d ≤ n)
+gcd-range a n zero l h = absurd (omega (arith, zero_divides n h.1))
+gcd-range a n (suc d) l h = (omega arith, le_of_dvd l h.1)
 
 -- an entry, in the form of a reached number
 reached-entry : (G : List ℕ) (m i : ℕ) → i < length G → IsReached G m (get_or G i 0)

@@ -22,6 +22,14 @@ pub record IsSound (G t : List ℕ) : Type 0 where
 abbrev pub IsSettledAt : List ℕ → List ℕ → ℕ → ℕ → Type 0
 IsSettledAt G t i j = slice_index t ((slice_index t i + slice_index G j) % length t) ≤ slice_index t i + slice_index G j
 
+-- the same where a member of class i is known
+abbrev pub IsSettledFrom : List ℕ → List ℕ → ℕ → ℕ → Type 0
+IsSettledFrom G t i j = slice_index t i < UNREACHED → IsSettledAt G t i j
+
 -- no generator lowers what entry i leads to
 abbrev pub IsSettled : List ℕ → List ℕ → ℕ → Type 0
 IsSettled G t i = slice_index t i < UNREACHED → (j : ℕ) → j < length G → IsSettledAt G t i j
+
+-- no entry exceeds another, but entry 0, by more than s
+abbrev pub IsSpread : List ℕ → ℕ → Type 0
+IsSpread t s = (i j : ℕ) → 0 < i → i < length t → j < length t → slice_index t j ≤ slice_index t i + s
