@@ -13,7 +13,7 @@ use Rattle.sg_defs.proofs.MembershipLemmas.{member-entry}
 use Rattle.sg_apery.specs.Generators.{AreSmall, AreAccepted, AreRefused}
 use Rattle.sg_apery.specs.declared.fault.TableFault.{TableFault}
 use Rattle.sg_apery.specs.declared.fault.TableFault.TheVariants.{BadArgument, TooLarge, Memory}
-use Rattle.sg_apery.specs.Table.{IsTable, IsMinimalTable}
+use Rattle.sg_apery.specs.Table.{IsAperyTable, IsTable, IsMinimalTable}
 
 -- what holds of each entry of ys holds of each entry of xs, where ys lists those
 pub each-kept : (P : ℕ → Type 0) (xs ys : List ℕ) → ((x : ℕ) → Contains xs x → Contains ys x) → ((k : ℕ) → k < length ys → P (get_or ys k 0)) → (k : ℕ) → k < length xs → P (get_or xs k 0)
@@ -114,3 +114,6 @@ table-same D M t up all_small long h g = record {
     listed x c =
         let p = contains-place M x c in
         subst (Contains D) p.2 (entry-listed (IsMember D) M D g h.semigroup (λ n. ((λ q. q), (λ q. q))) p.0 p.1)
+
+pub table-apery : (G t : List ℕ) → IsTable G t → IsAperyTable G t
+table-apery G t h = record { semigroup = h.semigroup; not_empty = h.not_empty; modulus = h.modulus; apery = h.apery }

@@ -6,6 +6,13 @@ use Rattle.sg_apery.specs.declared.limits.TheConstants.{ENTRY_LIMIT, MULTIPLICIT
 use Rattle.sg_apery.specs.Fit.{IsFit}
 
 -- t is the Apery list of G modulo its length, which is a member of G
+pub record IsAperyTable (G t : List ℕ) : Type 0 where
+  pub semigroup : IsNumericalSemigroup G
+  pub not_empty : 0 < length t
+  pub modulus : IsMember G (length t)
+  pub apery : IsApery G (length t) t
+
+-- the same within the limits
 pub record IsTable (G t : List ℕ) : Type 0 where
   pub semigroup : IsNumericalSemigroup G
   pub not_empty : 0 < length t

@@ -1,10 +1,11 @@
 //! The minimal generators among given ones.
 
-ghost use Rattle.std.specs.Prelude.{◌≡◌, ◌<◌, ◌≤◌, ◌%◌, ◌-◌, ℕ, length, slice_index, Contains, IfOk, IsTrue, IsFalse, ◌↔◌};
+ghost use Rattle.std.specs.Prelude.{◌≡◌, ◌<◌, ◌≤◌, ◌-◌, ℕ, length, slice_index, Contains, EachIndex, IfOk, IsTrue, ◌↔◌};
 ghost use Rattle.std.specs.List.Sorted.{IsStrictlyIncreasing};
 ghost use Rattle.sg_defs.specs.Membership.{IsMember, Generates};
-ghost use Rattle.sg_apery.specs.Table.{IsTable};
-ghost use Rattle.sg_apery.specs.Minimal.{IsSpare};
+ghost use Rattle.sg_apery.specs.Classes.{IsAboveEntry};
+ghost use Rattle.sg_apery.specs.Minimal.{IsPartOf, IsSpare};
+ghost use Rattle.sg_apery.specs.Table.{IsAperyTable};
 
 use sg_nat::Nats;
 use std::alloc::{AllocError, Global};
@@ -19,39 +20,54 @@ pub fn sort_distinct(entries: &mut Vec<u64>)
     entries.dedup();
 }
 
-/// Whether a number is a member, by the table of the entries.
-pub fn is_member(table: &[u64], entries: &[u64], n: u64) -> bool
-    requires { IsTable entries.now table.now }
-    ensures { IsTrue result ↔ IsMember entries.now n }
+/// Whether a number is at least the entry of its residue class.
+fn is_above_entry(table: &[u64], n: u64) -> bool
+    requires { 0 < length table.now }
+    ensures { IsTrue result ↔ IsAboveEntry table.now n }
 {
-    let residue = (n % table.len() as u64) as usize;
-    table[residue] <= n
+    table[(n % table.len() as u64) as usize] <= n
 }
 
-/// Whether an entry is a lesser entry and a member.
-fn is_spare(table: &[u64], entries: &[u64], entry: u64) -> bool
-    requires { IsTable entries.now table.now }
-    ensures { IsTrue result ↔ IsSpare entries.now entry }
+/// Whether a number is the sum of a lesser one among the ascending `minimal`, and of a number that is at least the entry
+/// of its class. Of two such summands one is at most the half, so only those are tried.
+fn is_spare(table: &[u64], minimal: &[u64], number: u64) -> bool
+    requires not_empty { 0 < length table.now }
+    requires ascending { IsStrictlyIncreasing minimal.now }
+    ensures { IsTrue result ↔ IsSpare table.now minimal.now number }
 {
-    for other in entries {
-        if *other < entry && is_member(table, entries, entry - *other) {
+    for generator in minimal {
+        if *generator > number / 2 {
+            return false;
+        }
+        if is_above_entry(table, number - *generator) {
             return true;
         }
     }
     false
 }
 
-/// The entries that are not spare: the minimal generators.
+/// The ascending entries that are not spare.
+pub fn needed_part(alloc: Global, table: &[u64], entries: &[u64]) -> Result<Nats, AllocError>
+    requires not_empty { 0 < length table.now }
+    requires ascending { IsStrictlyIncreasing entries.now }
+    requires positive { EachIndex entries.now (λ k. 0 < slice_index entries.now k) }
+    ensures { IfOk result (λ part. IsPartOf table.now entries.now part (length entries.now)) }
+{
+    let mut part = Nats::new(alloc);
+    for entry in entries {
+        if !is_spare(table, part.as_slice(), *entry) {
+            part.push(*entry)?;
+        }
+    }
+    Ok(part)
+}
+
+/// The minimal generators among the given ones, of which `table` is an Apery list. An entry below twice the least is
+/// settled by one comparison, another by at most one look-up for each minimal generator up to its half.
 pub fn minimal_part(alloc: Global, table: &[u64], entries: &[u64]) -> Result<Nats, AllocError>
-    requires table { IsTable entries.now table.now }
+    requires table { IsAperyTable entries.now table.now }
     requires ascending { IsStrictlyIncreasing entries.now }
     ensures { IfOk result (λ minimal. Generates (IsMember entries.now) minimal) }
 {
-    let mut minimal = Nats::new(alloc);
-    for entry in entries {
-        if !is_spare(table, entries, *entry) {
-            minimal.push(*entry)?;
-        }
-    }
-    Ok(minimal)
+    needed_part(alloc, table, entries)
 }

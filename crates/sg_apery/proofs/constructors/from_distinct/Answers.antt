@@ -1,6 +1,6 @@
 use Rattle.std.proofs.Common.{◌≡◌, ◌∙◌, sym, inr, arith, rules, refl, length, vec_len}
 use Rattle.sg_defs.proofs.MembershipLemmas.{member-entry}
-use Rattle.sg_apery.proofs.EntryLemmas.{first-least, table-same}
+use Rattle.sg_apery.proofs.EntryLemmas.{first-least, table-same, table-apery}
 use Rattle.sg_apery.proofs.constructors.from_distinct.Goals as goal
 
 pub returns-then-multiplicity-gt-MULTIPLICITY_LIMIT-clause-refused : goal.returns-then-multiplicity-gt-MULTIPLICITY_LIMIT-clause-refused
@@ -12,7 +12,7 @@ pub apery_list-requires-clause-modulus : goal.apery_list-requires-clause-modulus
 apery_list-requires-clause-modulus c = member-entry c.args.entries.now 0 (c.if-not-is_numerical_semigroup.ensures.0 refl).not_empty
 
 pub minimal_part-requires-clause-table : goal.minimal_part-requires-clause-table
-minimal_part-requires-clause-table c = rw c.deref.ensures.value c.in_ok-apery.ensures.table
+minimal_part-requires-clause-table c = rw c.deref.ensures.value (table-apery c.args.entries.now c.in_ok-apery.apery.items c.in_ok-apery.ensures.table)
 
 pub from_parts-requires : goal.from_parts-requires
 from_parts-requires c =

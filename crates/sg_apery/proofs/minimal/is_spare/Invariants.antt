@@ -1,7 +1,7 @@
-use Rattle.std.proofs.Common.{ℕ, ◌<◌, ◌-◌, slice_index}
-use Rattle.sg_defs.specs.Membership.{IsMember}
+use Rattle.std.proofs.Common.{ℕ, ◌<◌, ◌≤◌, ◌+◌, ◌-◌, slice_index}
+use Rattle.sg_apery.specs.Classes.{IsAboveEntry}
 use Rattle.sg_apery.proofs.minimal.is_spare.Given as goal
 
--- no entry so far makes it spare
-abbrev pub invariant-loop-other : goal.invariant-loop-other
-invariant-loop-other l = (k : ℕ) → k < l.other-index → slice_index l.entries k < l.entry → IsMember l.entries (l.entry - slice_index l.entries k) → ⊥
+-- none so far makes it spare
+abbrev pub invariant-loop-generator : goal.invariant-loop-generator
+invariant-loop-generator l = (k : ℕ) → k < l.generator-index → slice_index l.minimal k + slice_index l.minimal k ≤ l.number → IsAboveEntry l.table (l.number - slice_index l.minimal k) → ⊥

@@ -1,0 +1,20 @@
+use Rattle.std.proofs.Common.{ℕ, ◌<◌, List, length, get_or, refl, sym, subst, arith}
+use Rattle.sg_apery.specs.Minimal.{IsSpare}
+use Rattle.sg_apery.proofs.GeneratorLemmas.{part-none, part-push, part-skip}
+use Rattle.sg_apery.proofs.minimal.needed_part.Goals as goal
+use Rattle.sg_apery.proofs.minimal.needed_part.Goals.{then-not-is_spare+in_ok-push, else-not-is_spare}
+
+pub loop-entry-init : goal.loop-entry-init
+loop-entry-init c = rw c.new-part.ensures (part-none c.args.table.now c.args.entries.now)
+
+pub loop-entry-preserved : goal.loop-entry-preserved
+loop-entry-preserved c =
+    let entries = c.args.entries.now in
+    let n = c.loop-entry.entry-index in
+    let before = c.loop-entry.part in
+    elim c.if-not-is_spare.branch [
+      | then-not-is_spare+in_ok-push w ↦
+          rw (w.part-is, w.in_ok-push.ensures.ok)
+          (part-push c.args.table.now entries before n c.requires.ascending (omega arith) (c.requires.positive n (omega arith)) (λ h. absurd (let f = w.if-not-is_spare.ensures.1 (subst (λ m. IsSpare c.args.table.now m (get_or entries n 0)) (sym c.as_slice.ensures) h) in cc)) c.loop-entry.invariant)
+      | else-not-is_spare w ↦ rw w.part-is (part-skip c.args.table.now entries before n (subst (λ m. IsSpare c.args.table.now m (get_or entries n 0)) c.as_slice.ensures (w.if-not-is_spare.ensures.0 refl)) c.loop-entry.invariant)
+    ]
