@@ -1,0 +1,8 @@
+use Rattle.sg_cut.proofs.Outcomes.{statement-append, too_long-append}
+use Rattle.sg_cut.proofs.laws.settled.Goals as goal
+
+pub returns-clause-statement : goal.returns-clause-statement
+returns-clause-statement c = λ bytes more whole later begin end s. statement-append bytes more begin end s
+
+pub returns-clause-too_long : goal.returns-clause-too_long
+returns-clause-too_long c = λ bytes more whole later begin t. too_long-append bytes more begin t

@@ -1,0 +1,3 @@
+pub mod Lexemes
+pub mod Cut
+pub mod Lines
