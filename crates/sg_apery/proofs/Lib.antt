@@ -7,3 +7,5 @@ pub mod ArgumentLemmas
 pub mod TableLemmas
 pub mod EntryLemmas
 pub mod SpanLemmas
+pub mod BoundLemmas
+pub mod KunzLemmas

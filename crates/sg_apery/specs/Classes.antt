@@ -1,5 +1,6 @@
 -- Semigroups by the least member in each residue class.
-use Rattle.std.specs.Prelude.{◌≡◌, ℕ, ◌+◌, ◌%◌, ◌<◌, ◌≤◌, List, length, slice_index}
+use Rattle.std.specs.Prelude.{◌≡◌, ℕ, ◌+◌, ◌%◌, ◌<◌, ◌≤◌, List, length, slice_index, slice_set, Contains}
+use Rattle.std.specs.List.Sorted.{IsStrictlyIncreasing}
 
 -- n is at least the entry of its residue class modulo the number of entries
 abbrev pub IsAboveEntry : List ℕ → ℕ → Type 0
@@ -19,3 +20,9 @@ pub record IsKunz (t : List ℕ) : Type 0 where
 -- g leads from no entry to a greater one than their sum
 abbrev pub IsClosedUnder : List ℕ → ℕ → Type 0
 IsClosedUnder t g = (i : ℕ) → i < length t → slice_index t ((i + g) % length t) ≤ slice_index t i + g
+
+-- D lists the modulus and the other entries, ascending
+pub record AreClassGenerators (t D : List ℕ) : Type 0 where
+  pub ascending : IsStrictlyIncreasing D
+  pub keeps : (x : ℕ) → Contains (slice_set t 0 (length t)) x → Contains D x
+  pub adds_none : (x : ℕ) → Contains D x → Contains (slice_set t 0 (length t)) x

@@ -1,3 +1,4 @@
+pub mod Conditions
 pub mod Classes
 pub mod Entries
 pub mod Fit

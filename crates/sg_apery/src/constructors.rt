@@ -2,7 +2,8 @@
 
 ghost use Rattle.std.specs.Prelude.{◌≡◌, ◌<◌, ◌≤◌, length, vec_len, EachIndex, slice_index, IfOk, OnOk, IfErr};
 ghost use Rattle.std.specs.List.Sorted.{IsStrictlyIncreasing};
-ghost use Rattle.sg_defs.specs.Membership.{IsNumericalSemigroup, IsMember, Generates};
+ghost use Rattle.sg_defs.specs.Membership.{IsNumericalSemigroup, IsMember, IsMinimal, Generates};
+ghost use Rattle.sg_apery.specs.Fit.{IsFit};
 ghost use Rattle.sg_apery.specs.Generators.{AreAccepted, AreRefused, AreSmall};
 ghost use Rattle.sg_apery.specs.Table.{IsTable};
 
@@ -12,6 +13,7 @@ use crate::limits::MULTIPLICITY_LIMIT;
 use crate::minimal::{minimal_part, sort_distinct};
 use crate::relaxation::{UNREACHED, relax_fully};
 use crate::table::Table;
+use sg_nat::Nats;
 use std::alloc::{AllocError, Global};
 
 /// Makes an empty table the Apery list modulo its length.
@@ -80,5 +82,19 @@ impl Table {
         let mut entries = Vec::from_slice(alloc, given)?;
         sort_distinct(&mut entries);
         from_distinct(alloc, &entries)
+    }
+
+    /// The numerical semigroup with these minimal generators, in `e*m` steps for `e` generators and the multiplicity
+    /// `m`, but for generators that lower no entry, which cost one step each.
+    pub fn of_minimal(alloc: Global, gens: &Nats) -> Result<Table, AllocError>
+        requires semigroup { IsNumericalSemigroup gens.now }
+        requires minimal { IsMinimal gens.now }
+        requires fit { IsFit gens.now }
+        ensures { IfOk result (λ table. table ≡ gens.now) }
+    {
+        let multiplicity = gens.as_slice()[0];
+        let apery = apery_list(alloc, gens.as_slice(), multiplicity)?;
+        let generators = gens.try_clone()?;
+        Ok(Table::from_parts(generators, apery))
     }
 }

@@ -69,7 +69,7 @@ fn relax_along(table: &mut [u64], generators: &[u64], which: usize) -> bool
 }
 
 /// The spread of the entries: by how much the greatest exceeds the least but entry 0.
-fn spread(table: &[u64]) -> u64
+pub fn spread(table: &[u64]) -> u64
     ensures { IsSpread table.now result }
 {
     let mut least = UNREACHED;
