@@ -1,13 +1,13 @@
 //! The pseudo-Frobenius numbers and the special gaps.
 
-ghost use Rattle.std.specs.Prelude.{◌≡◌, ◌<◌, ◌≤◌, ◌^◌, ℕ, pos, negsuc, neg_ℤ, ◌+ℤ◌, ◌-ℤ◌, ◌≤ℤ◌, length, map, slice_index, EachIndex, IfOk, IsTrue, ◌↔◌};
+ghost use Rattle.std.specs.Prelude.{◌*◌, ◌≡◌, ◌<◌, ◌≤◌, ℕ, pos, negsuc, neg_ℤ, ◌+ℤ◌, ◌-ℤ◌, ◌≤ℤ◌, length, map, slice_index, EachIndex, IfOk, IsTrue, ◌↔◌};
 ghost use Rattle.sg_defs.specs.Listings.{ListsIntegers};
 ghost use Rattle.sg_defs.specs.Membership.{IsIntegerMember};
 ghost use Rattle.sg_defs.specs.Invariants.{IsFrobenius, IsPseudoFrobenius, IsSpecialGap};
 ghost use Rattle.sg_invar.specs.Maximal.{IsMaximalEntry, Collects};
 
 use crate::numbers::frobenius;
-use sg_apery::Table;
+use sg_apery::{ENTRY_LIMIT, MULTIPLICITY_LIMIT, Table};
 use sg_nat::Ints;
 use std::alloc::{AllocError, Global};
 
@@ -15,9 +15,9 @@ use std::alloc::{AllocError, Global};
 /// first that moves it past the Frobenius number ends the search.
 fn is_pseudo_frobenius(table: &Table, x: i64, frobenius: i64) -> bool
     requires frobenius { IsFrobenius table.now frobenius }
-    requires high { frobenius ≤ℤ pos (2 ^ 52) }
+    requires high { frobenius ≤ℤ pos (MULTIPLICITY_LIMIT * ENTRY_LIMIT) }
     requires outside { IsIntegerMember table.now x → ⊥ }
-    requires low { neg_ℤ (pos (2 ^ 20)) ≤ℤ x }
+    requires low { neg_ℤ (pos MULTIPLICITY_LIMIT) ≤ℤ x }
     ensures { IsTrue result ↔ IsPseudoFrobenius table.now x }
 {
     let reach = (frobenius - x) as u64;
@@ -51,8 +51,8 @@ fn maximal_entries(alloc: Global, table: &Table) -> Result<Vec<u64>, AllocError>
 
 /// Each entry less a number.
 fn lowered(alloc: Global, entries: &[u64], by: u64) -> Result<Ints, AllocError>
-    requires entries { EachIndex entries.now (λ k. slice_index entries.now k ≤ 2 ^ 52) }
-    requires by { by ≤ 2 ^ 20 }
+    requires entries { EachIndex entries.now (λ k. slice_index entries.now k ≤ MULTIPLICITY_LIMIT * ENTRY_LIMIT) }
+    requires by { by ≤ MULTIPLICITY_LIMIT }
     ensures { IfOk result (λ numbers. numbers ≡ map (λ entry. pos entry -ℤ pos by) entries.now) }
 {
     let mut numbers = Ints::new(alloc);
@@ -77,7 +77,7 @@ pub fn pseudo_frobenius(alloc: Global, table: &Table) -> Result<Ints, AllocError
 /// Whether twice a number is a member. Where that is past the Frobenius number it needs no look-up.
 fn has_double(table: &Table, x: i64, frobenius: i64) -> bool
     requires frobenius { IsFrobenius table.now frobenius }
-    requires high { frobenius ≤ℤ pos (2 ^ 52) }
+    requires high { frobenius ≤ℤ pos (MULTIPLICITY_LIMIT * ENTRY_LIMIT) }
     requires low { negsuc 0 ≤ℤ x }
     requires below { x ≤ℤ frobenius }
     ensures { IsTrue result ↔ IsIntegerMember table.now (x +ℤ x) }
