@@ -1,6 +1,7 @@
 -- The entries of a list of values.
-use Rattle.std.proofs.Common.{◌≡◌, ℕ, ◌+◌, ◌<◌, ◌≤◌, zero, suc, List, [], ◌∷◌, ◌++◌, length, get_or, take, refl, ap, subst, sym, arith}
-use Rattle.sg_value.specs.Plain.{Named, AllKnown, AllKnownIn, plain, plain_of_all}
+use Rattle.std.proofs.Common.{◌≡◌, ℕ, ◌+◌, ◌<◌, zero, suc, List, [], ◌∷◌, ◌++◌, length, get_or, take, Some, IsSome, refl, ap, subst, sym, arith}
+use Rattle.sg_value.specs.Data.{Data, int, truth, text, list, fail, semigroup, Items, none, item, EachSemigroup, EachSemigroupOfAll}
+use Rattle.sg_value.specs.Plain.{Named, contents, AllKnown, AllKnownIn, plain, plain_of_all}
 use Rattle.sg_value.specs.Text.{entry_text, entry_texts, joined, separator}
 use Rattle.sg_value.proofs.Fronts.{IsNext}
 use Rattle.sg_value.proofs.Pieces.{joined-next}
@@ -11,6 +12,25 @@ pub AllKnownIn-at : (names : Named) (vs : List Value) (i : ℕ) (v d : Value) �
 AllKnownIn-at names [] i v d all within is = absurd (omega arith)
 AllKnownIn-at names (w ∷ ws) zero v d all within is = subst (λ x. AllKnown names x) (sym is) all.0
 AllKnownIn-at names (w ∷ ws) (suc i) v d all within is = AllKnownIn-at names ws i v d all.1 (omega arith) is
+
+mutual
+  EachSemigroup-all : {H : Type 0} (P : H → Type 0) → ((h : H) → P h) → (d : Data H) → EachSemigroup P d
+  EachSemigroup-all P all (int z) = tt
+  EachSemigroup-all P all (truth b) = tt
+  EachSemigroup-all P all (text bs) = tt
+  EachSemigroup-all P all (list ds) = EachSemigroupOfAll-all P all ds
+  EachSemigroup-all P all fail = tt
+  EachSemigroup-all P all (semigroup h) = all h
+
+  EachSemigroupOfAll-all : {H : Type 0} (P : H → Type 0) → ((h : H) → P h) → (ds : Items H) → EachSemigroupOfAll P ds
+  EachSemigroupOfAll-all P all none = tt
+  EachSemigroupOfAll-all P all (item d ds) = (EachSemigroup-all P all d, EachSemigroupOfAll-all P all ds)
+
+-- where every place is known, so is every value
+pub AllKnown-all : (gens : List ℕ) (v : Value) → AllKnown (λ i. Some gens) v
+AllKnown-all gens v = EachSemigroup-all (λ i. IsSome (Some gens)) (λ i. refl) (contents v)
+
+pub ruleset all_known = (AllKnown-all)
 
 -- there is a text for each entry
 pub length-entry_texts : (names : Named) (vs : List Value) → length (entry_texts (plain_of_all names vs)) ≡ length vs

@@ -15,6 +15,8 @@ pub mod laws;
 mod names;
 mod print;
 mod size;
+#[cfg(test)]
+mod tests;
 mod text;
 mod value;
 

@@ -1,4 +1,4 @@
-use Rattle.std.proofs.Common.{sym, ap, ◌∙◌}
+use Rattle.std.proofs.Common.{sym, ◌∙◌}
 use Rattle.sg_value.proofs.Fronts.{front_more, Adds_err, Adds_same, Adds-after}
 use Rattle.sg_value.proofs.text.add_separated_number.Goals as goal
 

@@ -1,0 +1,123 @@
+//! Each call once, with ample memory; the texts are those of the language's description.
+
+ghost use Rattle.std.specs.Prelude.{Some};
+
+use crate::{Names, SemId, Value, depth, equal, print_into, try_clone, weight};
+use sg_nat::{Bytes, Nats};
+use std::alloc::{AllocError, Global};
+use std::io;
+
+/// Names that know every id, and give it the same generators.
+#[derive(Drop)]
+struct OneSemigroup {
+    generators: Nats,
+}
+
+impl Names for OneSemigroup {
+    ghost generators = { λ names i. Some names.generators };
+
+    fn semigroup(&self, _id: SemId) -> &Nats {
+        &self.generators
+    }
+}
+
+#[tactic(auto, using(crate::proofs::Entries::all_known))]
+fn printed(alloc: Global, v: &Value) -> Result<Bytes, AllocError> {
+    let names = OneSemigroup {
+        generators: Nats::from_slice(alloc, &[3, 5])?,
+    };
+    let mut out = Bytes::new(alloc);
+    print_into(v, &names, &mut out)?;
+    Ok(out)
+}
+
+fn text(alloc: Global, bytes: &[u8]) -> Result<Value, AllocError> {
+    Ok(Value::Text(Bytes::from_slice(alloc, bytes)?))
+}
+
+#[test]
+fn texts(rt: HostRuntime) -> io::Result<()> {
+    let alloc = rt.alloc();
+    let numbers = vec![in alloc; Value::Int(-1), Value::Int(0), Value::Int(12)]?;
+    let mixed = vec![in alloc;
+        text(alloc, b"a\"b\\c\nd\te")?,
+        Value::Sem(SemId::new(7)),
+        Value::List(Vec::new(alloc)),
+        Value::Bool(true),
+    ]?;
+    let table = vec![in alloc;
+        (Value::Int(0), "0"),
+        (Value::Int(i64::MAX), "9223372036854775807"),
+        (Value::Int(i64::MIN), "-9223372036854775808"),
+        (Value::Bool(true), "true"),
+        (Value::Bool(false), "false"),
+        (Value::Fail, "fail"),
+        (Value::Sem(SemId::new(0)), "NumericalSemigroup( [ 3, 5 ] )"),
+        (text(alloc, b"a\"b\\c\nd\te")?, "a\"b\\c\nd\te"),
+        (Value::List(Vec::new(alloc)), "[  ]"),
+        (Value::List(numbers), "[ -1, 0, 12 ]"),
+        (
+            Value::List(mixed),
+            r#"[ "a\"b\\c\nd\te", NumericalSemigroup( [ 3, 5 ] ), [  ], true ]"#,
+        ),
+    ]?;
+    for (v, wanted) in table.iter() {
+        assert_eq!(rt;
+            printed(alloc, v)?.as_slice(),
+            wanted.as_bytes(),
+            "at {wanted}"
+        );
+    }
+    Ok(())
+}
+
+#[test]
+fn a_deep_value(rt: HostRuntime) -> io::Result<()> {
+    let alloc = rt.alloc();
+    let mut deep = Value::List(Vec::new(alloc));
+    for _ in 1..64 {
+        deep = Value::List(vec![in alloc; deep]?);
+    }
+    assert_eq!(rt; (depth(&deep), weight(&deep)), (64, 64));
+    assert!(rt; equal(&deep, &try_clone(&deep, alloc)?));
+    assert!(rt; !equal(&deep, &Value::List(Vec::new(alloc))));
+    assert_eq!(rt; printed(alloc, &deep)?.len(), 256);
+    Ok(())
+}
+
+#[test]
+fn a_wide_value(rt: HostRuntime) -> io::Result<()> {
+    let alloc = rt.alloc();
+    let mut items = Vec::new(alloc);
+    for n in 0..1000 {
+        items.push(Value::Int(n))?;
+    }
+    let wide = Value::List(items);
+    assert_eq!(rt; (depth(&wide), weight(&wide)), (1, 1001));
+    assert!(rt; equal(&wide, &try_clone(&wide, alloc)?));
+    assert_eq!(rt; printed(alloc, &wide)?.len(), 2 + 2890 + 2 * 999 + 2);
+    Ok(())
+}
+
+#[test]
+fn kinds_differ(rt: HostRuntime) -> io::Result<()> {
+    let alloc = rt.alloc();
+    let id = SemId::new(3);
+    assert_eq!(rt; id.index(), 3);
+    let values = vec![in alloc;
+        Value::Int(1),
+        Value::Bool(true),
+        text(alloc, b"")?,
+        text(alloc, b"1")?,
+        Value::List(Vec::new(alloc)),
+        Value::Fail,
+        Value::Sem(SemId::new(1)),
+        Value::Sem(id),
+    ]?;
+    for (i, a) in values.iter().enumerate() {
+        for (j, b) in values.iter().enumerate() {
+            assert_eq!(rt; equal(a, b), i == j, "at {i}, {j}");
+        }
+    }
+    Ok(())
+}
