@@ -1,0 +1,5 @@
+pub mod Script
+pub mod First
+pub mod Causes
+pub mod Input
+pub mod Ends
