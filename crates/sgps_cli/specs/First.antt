@@ -2,8 +2,8 @@
 use Rattle.std.specs.Prelude.{◌≡◌, ℕ, ℤ, List, ◌++◌, codes}
 use Rattle.std.specs.Fmt.{signed_decimal}
 use Rattle.sg_defs.specs.Invariants.{IsFrobenius}
-use Rattle.sg_apery.specs.Arguments.{IsAccepted, IsRefused}
-use Rattle.sg_apery.specs.declared.table.TableFault.TheVariants as table
+use Rattle.sg_apery.specs.Generators.{AreAccepted, AreRefused}
+use Rattle.sg_apery.specs.declared.fault.TableFault.TheVariants as table
 use Rattle.sgps_cli.specs.Script.{IsScript}
 use Rattle.sgps_cli.specs.declared.answer.Answer.{Answer}
 use Rattle.sgps_cli.specs.declared.answer.Answer.TheVariants.{Prints, Refuses}
@@ -21,10 +21,10 @@ IsFrobeniusText G text = (f : ℤ) × IsFrobenius G f × (text ≡ signed_decima
 
 -- the answer to the script of these numbers
 abbrev pub AnswersFor : List ℕ → Outcome → Type 0
-AnswersFor ns (prints text) = IsAccepted ns × IsFrobeniusText ns text
+AnswersFor ns (prints text) = AreAccepted ns × IsFrobeniusText ns text
 AnswersFor ns (refuses Syntax) = ⊥
-AnswersFor ns (refuses BadArgument) = IsRefused ns table.BadArgument
-AnswersFor ns (refuses TooLarge) = IsRefused ns table.TooLarge
+AnswersFor ns (refuses BadArgument) = AreRefused ns table.BadArgument
+AnswersFor ns (refuses TooLarge) = AreRefused ns table.TooLarge
 
 -- the answer to the bytes: that to the script of their numbers, or Syntax where they are no script
 abbrev pub First : List ℕ → Outcome → Type 0

@@ -6,8 +6,7 @@ ghost use Rattle.sgps_cli.specs.First.{AnswersFor, First, IsFrobeniusText, outco
 use crate::ending::Fault;
 use crate::line::script_numbers;
 use itoa::Buffer;
-use sg_apery::Table;
-use sg_apery::table::TableFault;
+use sg_apery::{Table, TableFault};
 use sg_invar::frobenius;
 use sg_nat::{Bytes, Nats};
 use std::alloc::{AllocError, Global};

@@ -12,6 +12,8 @@ mod input;
 mod line;
 mod program;
 mod report;
+#[cfg(test)]
+mod tests;
 
 pub use ending::{Cause, Ending, Fault};
 pub use program::run;
