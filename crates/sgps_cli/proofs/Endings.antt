@@ -1,11 +1,10 @@
 -- From what was played to how the run ends.
-use Rattle.std.proofs.Common.{◌≡◌, ℕ, ◌+◌, ◌≤◌, List, [], ◌∷◌, ◌++◌, length, true, Option, Some, None, refl, sym, ap, subst, ◌∙◌, inl, inr, append_assoc, arith}
-use Rattle.std.specs.Prelude.{◌⊎◌, ◌==◌, cond, IsSome, is_some, codes}
+use Rattle.std.proofs.Common.{◌≡◌, ℕ, ◌≤◌, List, [], ◌∷◌, ◌++◌, length, true, Option, Some, None, refl, sym, ap, subst, ◌∙◌, inl, inr, append_assoc, arith}
+use Rattle.std.specs.Prelude.{◌⊎◌, ◌==◌, codes}
 use Rattle.std.specs.Io.KnownBytes.{append_known}
 use Rattle.std.proofs.lemmas.Grind.{common_steps}
 use Rattle.std.proofs.lemmas.List.{length-append, append-nil}
-use Rattle.sg_io.specs.Faults.{Rose}
-use Rattle.sg_io.specs.Inputs.{Input, input_named, missing_after}
+use Rattle.sg_io.specs.Inputs.{Input, missing_after}
 use Rattle.sgps_cli.specs.Script.{IsScript}
 use Rattle.sgps_cli.specs.First.{Outcome, prints, refuses, First}
 use Rattle.sgps_cli.specs.Input.{HasStandardInput, IsTakenFrom}

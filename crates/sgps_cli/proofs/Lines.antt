@@ -1,10 +1,10 @@
 -- The one form of a script: what stands between its head and its tail, and its line feed.
-use Rattle.std.proofs.Common.{◌≡◌, ℕ, ◌+◌, ◌-◌, ◌<◌, ◌≤◌, List, [], ◌∷◌, ◌++◌, length, take, drop, get_or, true, false, Option, Some, None, refl, sym, ap, subst, ◌∙◌, inl, inr, append_assoc, arith}
+use Rattle.std.proofs.Common.{◌≡◌, ℕ, ◌+◌, ◌-◌, List, ◌++◌, length, take, drop, true, false, Option, Some, None, refl, sym, ap, subst, ◌∙◌, inl, inr, append_assoc, arith}
 use Rattle.std.specs.Prelude.{◌⊎◌, MatchOption, nat_eq, codes, unwrap_or}
 use Rattle.std.specs.Cmp.Lexicographic.{pointwise, same_text, other_text}
 use Rattle.std.proofs.lemmas.List.{append_cancel_left, append_cancel_right, take-append-drop, take-append-le, take_all, length-append}
 use Rattle.std.proofs.Math.Seq.{drop-append_seam}
-use Rattle.sgps_cli.specs.Script.{IsLineOf, IsGoodLine, WritesNumbers, IsScript}
+use Rattle.sgps_cli.specs.Script.{IsLineOf, IsGoodLine, IsScript}
 
 -- bytes that begin so are that front and the rest
 pub front-is : (front xs : List ℕ) → pointwise nat_eq (take (length front) xs) front ≡ true → xs ≡ front ++ drop (length front) xs

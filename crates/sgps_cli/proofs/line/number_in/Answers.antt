@@ -1,4 +1,4 @@
-use Rattle.std.proofs.Common.{◌≡◌, ◌+◌, ◌-◌, ◌*◌, ◌/◌, ◌<◌, ◌≤◌, ◌^◌, get_or, refl, arith}
+use Rattle.std.proofs.Common.{◌+◌, ◌-◌, ◌*◌, ◌≤◌, ◌^◌, get_or, refl, arith}
 use Rattle.sgps_cli.proofs.Numerals.{read-more, no_digit, too_great}
 use Rattle.sgps_cli.proofs.line.number_in.Goals as goal
 

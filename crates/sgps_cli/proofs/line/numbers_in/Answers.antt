@@ -1,7 +1,6 @@
-use Rattle.std.proofs.Common.{◌≡◌, ℕ, List, length, take, map, get_or, refl, sym, ap, subst, ◌∙◌, arith}
-use Rattle.std.specs.List.{AllZip, slice_split}
-use Rattle.std.specs.Prelude.{◌==◌}
-use Rattle.sgps_cli.specs.Script.{WritesNumber, WritesNumbers}
+use Rattle.std.proofs.Common.{map, sym, ap, subst, ◌∙◌}
+use Rattle.std.specs.List.{AllZip}
+use Rattle.sgps_cli.specs.Script.{WritesNumber}
 use Rattle.sgps_cli.proofs.Pieces.{zip-more, no_number, zip-all, written-pieces, pieces-written}
 use Rattle.sgps_cli.proofs.line.numbers_in.Goals as goal
 

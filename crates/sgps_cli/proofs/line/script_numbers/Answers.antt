@@ -1,6 +1,6 @@
-use Rattle.std.proofs.Common.{◌≡◌, ℕ, List, ◌++◌, subst, sym, ap}
+use Rattle.std.proofs.Common.{subst, sym, ap}
 use Rattle.std.proofs.lemmas.Result.{IfOk-weaker}
-use Rattle.sgps_cli.specs.Script.{IsScript, IsGoodLine, WritesNumbers}
+use Rattle.sgps_cli.specs.Script.{WritesNumbers}
 use Rattle.sgps_cli.proofs.Lines.{IsStripped, stripped, script-line, line-script, one-list, option-weaker}
 use Rattle.sgps_cli.proofs.line.script_numbers.Goals as goal
 

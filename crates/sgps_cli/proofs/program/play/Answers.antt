@@ -1,4 +1,4 @@
-use Rattle.std.proofs.Common.{◌≡◌, subst, sym}
+use Rattle.std.proofs.Common.{subst, sym}
 use Rattle.sgps_cli.specs.First.{First, outcome_of, prints}
 use Rattle.sgps_cli.proofs.Endings.{prints-plays}
 use Rattle.sgps_cli.proofs.program.play.Goals as goal

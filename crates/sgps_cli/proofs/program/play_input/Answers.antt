@@ -1,4 +1,3 @@
-use Rattle.std.proofs.Common.{◌≡◌}
 use Rattle.sgps_cli.proofs.Endings.{plays-input, play-reads}
 use Rattle.sgps_cli.proofs.program.play_input.Goals as goal
 

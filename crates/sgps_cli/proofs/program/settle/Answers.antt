@@ -1,4 +1,4 @@
-use Rattle.std.proofs.Common.{◌≡◌, [], sym, ◌∙◌}
+use Rattle.std.proofs.Common.{sym, ◌∙◌}
 use Rattle.sgps_cli.proofs.Endings.{input-ends, missing-same, no-words}
 use Rattle.sgps_cli.proofs.program.settle.Goals as goal
 
