@@ -1,0 +1,1 @@
+Print(FrobeniusNumber(NumericalSemigroup(6,9,20)),"\n");
