@@ -11,7 +11,7 @@ use Rattle.std.proofs.Math.Nat.{mod-add-div, mul-le-mul_left, mul-div-le, div-le
 use Rattle.sg_defs.specs.Membership.{IsMember}
 use Rattle.sg_defs.specs.Apery.{IsApery, IsAperyEntry}
 use Rattle.sg_defs.specs.Invariants.{IsGap, IsGenus}
-use Rattle.sg_apery.proofs.AperyLemmas.{apery-member}
+use Rattle.sg_apery.proofs.AperyLemmas.{apery-member, member-decided}
 
 -- x and nothing, or x alone
 abbrev listed_if : Bool → ℕ → List ℕ
@@ -232,12 +232,28 @@ quotients-small G m bound n total positive l h = elim (cases_lt bound total) [
   | inr less ↦ less
 ]
 
--- all of them give the genus
+-- all of them are the Apery list
+all-entries : (G : List ℕ) (m bound total : ℕ) → IsSumOfQuotients G m bound m total → (t : List ℕ) × IsApery G m t × ((i : ℕ) → i < m → get_or t i 0 ≤ bound) × (sum_by (λ w. w / m) t ≡ total)
+all-entries G m bound total h = (
+  h.entries,
+  record {
+    entries = h.long;
+    member = λ i l. (h.each i l).member;
+    residue = λ i l. (h.each i l).residue;
+    least = λ i y l e q. (h.each i l).least y e q;
+  },
+  h.below,
+  h.quotients,
+)
+
+-- they give the genus
 pub genus-from_quotients : (G : List ℕ) (m bound total : ℕ) → 0 < m → IsMember G m → IsSumOfQuotients G m bound m total → IsGenus G total
 genus-from_quotients G m bound total positive modulus h =
-    subst (IsGenus G) h.quotients (genus-from_apery G h.entries m bound positive modulus (record {
-      entries = h.long;
-      member = λ i l. (h.each i l).member;
-      residue = λ i l. (h.each i l).residue;
-      least = λ i y l e q. (h.each i l).least y e q;
-    }) (λ i l. omega (arith, h.below i l, mul-le-mul_left bound positive)))
+    let t = all-entries G m bound total h in
+    subst (IsGenus G) t.3 (genus-from_apery G t.0 m bound positive modulus t.1 (λ i l. omega (arith, t.2 i l, mul-le-mul_left bound positive)))
+
+-- and they tell of each natural whether it is a member
+pub decided-from_quotients : (G : List ℕ) (m bound total : ℕ) → 0 < m → IsMember G m → IsSumOfQuotients G m bound m total → (n : ℕ) → IsMember G n ⊎ IsGap G n
+decided-from_quotients G m bound total positive modulus h =
+    let t = all-entries G m bound total h in
+    member-decided G m t.0 positive modulus t.1

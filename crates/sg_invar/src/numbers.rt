@@ -1,7 +1,8 @@
 //! The Frobenius number, the conductor and the genus.
 
-ghost use Rattle.std.specs.Prelude.{◌*◌, ◌+◌, ◌≤◌, pos, negsuc, ◌≤ℤ◌};
-ghost use Rattle.sg_defs.specs.Invariants.{IsFrobenius, IsConductor, IsGenus};
+ghost use Rattle.std.specs.Prelude.{◌*◌, ◌+◌, ◌≤◌, ◌⊎◌, ℕ, pos, negsuc, ◌≤ℤ◌};
+ghost use Rattle.sg_defs.specs.Membership.{IsMember};
+ghost use Rattle.sg_defs.specs.Invariants.{IsFrobenius, IsConductor, IsGap, IsGenus};
 
 use sg_apery::{ENTRY_LIMIT, MULTIPLICITY_LIMIT, Table};
 
@@ -29,9 +30,10 @@ pub fn conductor(table: &Table) -> u64
 }
 
 /// The number of gaps: of the class of `w` in the Apery list there are `w / m`, for the multiplicity `m` (Selmer's
-/// formula; Rosales and Garcia-Sanchez, Proposition 2.12). It takes no memory.
+/// formula; Rosales and Garcia-Sanchez, Proposition 2.12). Each natural is a member or a gap. It takes no memory.
 pub fn genus(table: &Table) -> u64
     ensures genus { IsGenus table.now result }
+    ensures decided { (n : ℕ) → IsMember table.now n ⊎ IsGap table.now n }
     ensures small { result ≤ MULTIPLICITY_LIMIT * ENTRY_LIMIT }
 {
     let multiplicity = table.multiplicity();

@@ -1,0 +1,12 @@
+//! Symmetric, pseudo-symmetric and irreducible numerical semigroups.
+//!
+//! A semigroup is seen as its minimal list of generators. The one contract that the layer above uses: each test
+//! answers its definition over every integer, irreducibility that over all pairs of numerical semigroups above. The
+//! tests compare the genus with the Frobenius number and look at no pair.
+#![tactic(auto)]
+
+mod symmetry;
+#[cfg(test)]
+mod tests;
+
+pub use symmetry::{is_irreducible, is_pseudo_symmetric, is_symmetric};
