@@ -1,0 +1,11 @@
+pub mod SmallLemmas
+pub mod KnownSemigroups
+pub mod SymmetryLemmas
+pub mod VectorSamples
+pub mod MemberSamples
+pub mod InvariantSamples
+pub mod SymmetrySamples
+pub mod DecompositionSamples
+pub mod ClosureSamples
+pub mod IdealSamples
+pub mod UnchosenSamples

@@ -1,0 +1,5 @@
+use Rattle.sg_samples.proofs.SymmetryLemmas.{symmetric-irreducible}
+use Rattle.sg_samples.proofs.laws.symmetric_semigroups_are_irreducible.Goals as goal
+
+pub returns : goal.returns
+returns c = symmetric-irreducible
