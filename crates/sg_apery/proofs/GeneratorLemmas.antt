@@ -179,6 +179,13 @@ push_cases M g k l = elim (cases_lt k (length M)) [
       inr (sym e, get_or_push M g 0 k e)
 ]
 
+-- what holds of each place and its number, after one number more
+pub each-push : (P : ℕ → ℕ → Type 0) (M : List ℕ) (v n : ℕ) → length M ≡ n → ((i : ℕ) → i < n → P i (get_or M i 0)) → P n v → (i : ℕ) → i < n + 1 → P i (get_or (M ++ v ∷ []) i 0)
+each-push P M v n long before here i l = elim (push_cases M v i (omega (arith, length_push M v))) [
+  | inl a ↦ subst (P i) (sym a.1) (before i (omega arith))
+  | inr a ↦ let e : n ≡ i = omega arith in subst (λ j. P j (get_or (M ++ v ∷ []) i 0)) e (subst (P n) (sym a.1) here)
+]
+
 -- listed and not spare
 abbrev IsKept : List ℕ → List ℕ → List ℕ → ℕ → Type 0
 IsKept t D M x = Contains D x × (IsSpare t M x → ⊥)

@@ -27,7 +27,7 @@ residue-sum a b n =
     mod-add-mod a n (b % n) ∙ ap (λ x. x % n) e ∙ mod-add-mod b n a ∙ ap (λ x. x % n) f
 
 -- 0 leaves the residue 0
-zero-residue : (n : ℕ) → 0 < n → 0 % n ≡ 0
+pub zero-residue : (n : ℕ) → 0 < n → 0 % n ≡ 0
 zero-residue n l = omega arith
 
 module _ (t : List ℕ) (c : IsClassList t) where

@@ -9,3 +9,6 @@ pub mod EntryLemmas
 pub mod SpanLemmas
 pub mod BoundLemmas
 pub mod KunzLemmas
+pub mod ExistsLemmas
+pub mod DerivedLemmas
+pub mod QuotientLemmas

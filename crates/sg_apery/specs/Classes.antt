@@ -1,10 +1,23 @@
 -- Semigroups by the least member in each residue class.
-use Rattle.std.specs.Prelude.{◌≡◌, ℕ, ◌+◌, ◌%◌, ◌<◌, ◌≤◌, List, length, slice_index, slice_set, Contains}
+use Rattle.std.specs.Prelude.{◌≡◌, ℕ, ◌+◌, ◌%◌, ◌<◌, ◌≤◌, List, length, max, slice_index, slice_set, Contains}
 use Rattle.std.specs.List.Sorted.{IsStrictlyIncreasing}
+use Rattle.sg_apery.specs.declared.limits.TheConstants.{MULTIPLICITY_LIMIT}
 
 -- n is at least the entry of its residue class modulo the number of entries
 abbrev pub IsAboveEntry : List ℕ → ℕ → Type 0
 IsAboveEntry t n = slice_index t (n % length t) ≤ n
+
+-- n is above its entry in both lists, above 0 and within the limit on multiplicities
+pub record IsCommonEntry (s t : List ℕ) (n : ℕ) : Type 0 where
+  pub positive : 0 < n
+  pub small : n ≤ MULTIPLICITY_LIMIT
+  pub first : IsAboveEntry s n
+  pub second : IsAboveEntry t n
+
+-- the greater of the two entries in each class
+pub record AreGreaterEntries (s t list : List ℕ) : Type 0 where
+  pub long : length list ≡ length s
+  pub entries : (i : ℕ) → i < length s → slice_index list i ≡ max (slice_index s i) (slice_index t i)
 
 -- entry 0 is 0, and entry i is congruent to i modulo the number of entries
 pub record IsClassList (t : List ℕ) : Type 0 where

@@ -31,7 +31,7 @@ fn fill(table: &mut [u64], generators: &[u64])
 }
 
 /// The least member in each residue class modulo a member.
-fn apery_list(alloc: Global, generators: &[u64], modulus: u64) -> Result<Vec<u64>, AllocError>
+pub fn apery_list(alloc: Global, generators: &[u64], modulus: u64) -> Result<Vec<u64>, AllocError>
     requires semigroup { IsNumericalSemigroup generators.now }
     requires small { AreSmall generators.now }
     requires positive { 0 < modulus }

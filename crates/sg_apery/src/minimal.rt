@@ -21,7 +21,7 @@ pub fn sort_distinct(entries: &mut Vec<u64>)
 }
 
 /// Whether a number is at least the entry of its residue class.
-fn is_above_entry(table: &[u64], n: u64) -> bool
+pub fn is_above_entry(table: &[u64], n: u64) -> bool
     requires { 0 < length table.now }
     ensures { IsTrue result ↔ IsAboveEntry table.now n }
 {

@@ -73,7 +73,9 @@ impl Table {
 
     /// The Apery list modulo the multiplicity: entry `i` is the least member congruent to `i`.
     pub fn apery(&self) -> &[u64]
+        ensures semigroup { IsNumericalSemigroup self.now }
         ensures entries { length result.now ≡ slice_index self.now 0 }
+        ensures short { length result.now ≤ MULTIPLICITY_LIMIT }
         ensures apery { IsApery self.now (slice_index self.now 0) result.now }
         ensures small { EachIndex result.now (λ i. slice_index result.now i ≤ MULTIPLICITY_LIMIT * ENTRY_LIMIT) }
     {
