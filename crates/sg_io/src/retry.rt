@@ -1,5 +1,6 @@
 //! Calls of the system that a signal may interrupt.
 ghost use Rattle.std.specs.Io.{ReadsAtMost, WritesAtMost};
+ghost use Rattle.std.specs.Io.KnownBytes.{ReadConsumes, WriteAppends};
 
 use std::fs::File;
 use std::io::{self, ErrorKind, Read, Write};
@@ -9,7 +10,8 @@ const RETRIES: u32 = 1000;
 
 /// One read, tried again where a signal interrupted it.
 pub fn read_retrying<R: Read>(reader: &mut R, buf: &mut [u8]) -> io::Result<usize>
-    ensures { ReadsAtMost result buf.new }
+    ensures bound { ReadsAtMost result buf.new }
+    ensures bytes { ReadConsumes (R.remaining reader.old) (R.remaining reader.new) result buf.new }
 {
     for _ in 0..RETRIES {
         match reader.read(buf) {
@@ -22,7 +24,8 @@ pub fn read_retrying<R: Read>(reader: &mut R, buf: &mut [u8]) -> io::Result<usiz
 
 /// One write, tried again where a signal interrupted it.
 pub fn write_retrying<W: Write>(writer: &mut W, piece: &[u8]) -> io::Result<usize>
-    ensures { WritesAtMost result piece.now }
+    ensures bound { WritesAtMost result piece.now }
+    ensures bytes { WriteAppends (W.contents writer.old) (W.contents writer.new) result piece.now }
 {
     for _ in 0..RETRIES {
         match writer.write(piece) {
