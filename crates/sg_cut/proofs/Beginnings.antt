@@ -17,6 +17,7 @@ pub record BeginsFrom (bytes : List ℕ) (begin : ℕ) : Type 0 where
   pub ignored : IsTrue (list_all starts_ignored inside)
   pub stops : starts_ignored rest ≡ false
 
+-- as a list of blanks and comments, and what stands behind them
 pub from_Begins : {bytes : List ℕ} {begin : ℕ} → Begins bytes begin → BeginsFrom bytes begin
 from_Begins {bytes} {begin} b =
     let s = b.skipped in
@@ -30,6 +31,7 @@ from_Begins {bytes} {begin} b =
       stops = b.stops;
     }
 
+-- and back
 pub to_Begins : {bytes : List ℕ} {begin : ℕ} → BeginsFrom bytes begin → Begins bytes begin
 to_Begins {bytes} {begin} b =
     let front : take begin bytes ≡ concat b.inside = ap (take begin) b.spelled ∙ take_at (concat b.inside) b.rest begin (sym b.begin_is) in
@@ -80,6 +82,7 @@ same_begin_from (next ∷ inside) rest lexemes ignored stops (next' ∷ inside')
     same_begin_from inside rest lexemes.1 (and_parts (starts_ignored next) _ ignored).1 stops inside' rest' lexemes'.1 (and_parts (starts_ignored next') _ ignored').1 stops' same.1 in
     omega (arith, more, ap length same.0, length-append next (concat inside), length-append next' (concat inside'))
 
+-- some bytes begin at one place
 pub same_begin : {bytes : List ℕ} {begin begin' : ℕ} → Begins bytes begin → Begins bytes begin' → begin ≡ begin'
 same_begin b b' =
     let f = from_Begins b in

@@ -23,6 +23,7 @@ pub record EndsFrom (depth : ℕ) (bytes : List ℕ) (size : ℕ) : Type 0 where
 abbrev pub GoesOn : ℕ → List ℕ → Type 0
 GoesOn depth lexeme = lexeme ≡ 59 ∷ [] → 0 < depth
 
+-- a `;` is a lexeme, whatever follows
 semicolon : (rest : List ℕ) → IsLexeme (59 ∷ []) rest
 semicolon rest = single_first 59 rest refl refl refl
 
@@ -40,6 +41,7 @@ from_Ends {bytes} {size} e =
       first = s.first;
     }
 
+-- and the other way
 pub to_Ends : {bytes : List ℕ} {size : ℕ} → EndsFrom 0 bytes size → Ends bytes size
 to_Ends {bytes} {size} e =
     let text = concat e.inside ++ 59 ∷ [] in
@@ -78,6 +80,7 @@ semicolon_ends rest = record {
   first = λ before after e. absurd (not_nil before (59 ∷ []) after e);
 }
 
+-- with a lexeme that goes on in front, each `;` still stands inside a block
 first_with : {depth : ℕ} (lexeme : List ℕ) (inside : List (List ℕ)) → GoesOn depth lexeme → ((before after : List (List ℕ)) → inside ≡ before ++ (59 ∷ []) ∷ after → 0 < fold depth_after (depth_after depth lexeme) before) → (before after : List (List ℕ)) → lexeme ∷ inside ≡ before ++ (59 ∷ []) ∷ after → 0 < fold depth_after depth before
 first_with lexeme inside goes_on first [] after e = let same : lexeme ≡ 59 ∷ [] = cc in goes_on same
 first_with {depth} lexeme inside goes_on first (next ∷ before) after e =
@@ -119,6 +122,7 @@ behind_inside {depth} {size} {lexeme} {rest} l goes_on (next ∷ inside) rest' s
       },
     )
 
+-- the same, of the record
 pub ends_behind_lexeme : {depth size : ℕ} {lexeme rest : List ℕ} → IsLexeme lexeme rest → GoesOn depth lexeme → EndsFrom depth (lexeme ++ rest) size → (more : ℕ) × (size ≡ length lexeme + more) × EndsFrom (depth_after depth lexeme) rest more
 ends_behind_lexeme l goes_on e = behind_inside l goes_on e.inside e.rest e.spelled e.size_is e.lexemes e.closed e.first
 
@@ -129,9 +133,11 @@ only_semicolon {size} {rest} (next ∷ inside) rest' spelled size_is lexemes fir
     let same = same_lexeme (semicolon rest) lexemes.0 (spelled ∙ append_assoc next (concat inside) (59 ∷ rest')) in
     absurd (omega (arith, first [] inside (ap (λ (l : List ℕ). l ∷ inside) (sym same.0))))
 
+-- the same, of the record
 pub semicolon_ends_at_once : {size : ℕ} {rest : List ℕ} → EndsFrom 0 (59 ∷ rest) size → size ≡ 1
 semicolon_ends_at_once e = only_semicolon e.inside e.rest e.spelled e.size_is e.lexemes e.first
 
+-- two readings of some bytes, lexeme by lexeme, end at one place
 same_inside : (inside : List (List ℕ)) (depth size : ℕ) (rest : List ℕ) → AreLexemes inside (59 ∷ rest) → fold depth_after depth inside ≡ 0 → ((before after : List (List ℕ)) → inside ≡ before ++ (59 ∷ []) ∷ after → 0 < fold depth_after depth before) → EndsFrom depth (concat inside ++ 59 ∷ rest) size → size ≡ length (concat inside) + 1
 same_inside [] depth size rest lexemes closed first e =
     semicolon_ends_at_once (subst (λ d. EndsFrom d (59 ∷ rest) size) closed e)

@@ -33,11 +33,13 @@ plain_is_none b h =
     let two = or_parts (b == 34) (b == 92) all.0 in
     (two.0, two.1, all.1)
 
+-- a string goes no further than its line
 quoted_size-line : (behind : Bool) (rest : List ℕ) → EndsRun is_inline rest → quoted_size behind rest ≡ 0
 quoted_size-line behind [] ends = refl
 quoted_size-line behind (b ∷ rest) ends =
     let feed : (b == 10) ≡ true = not-false _ ends in rw feed refl
 
+-- what stands inside a string, and its end, are as long as it goes
 quoted_size-inside : {body closing : List ℕ} (rest : List ℕ) → IsInside body → Closes rest closing → quoted_size false (body ++ (closing ++ rest)) ≡ length (body ++ closing)
 quoted_size-inside rest none quote = refl
 quoted_size-inside rest none (line ends) = quoted_size-line false rest ends
@@ -52,6 +54,7 @@ quoted_size-inside rest (escaped {b} {bytes} is inside) closes =
     let no_feed : (b == 10) ≡ false = not-true _ is in
     rw no_feed (ap (λ n. suc (suc n)) (quoted_size-inside rest inside closes))
 
+-- the rest of a string is as long as it goes
 quoted_size-quoted : {tail rest : List ℕ} → IsQuoted tail rest → quoted_size false (tail ++ rest) ≡ length tail
 quoted_size-quoted {tail} {rest} q =
     rw (q.spelled, append_assoc) (quoted_size-inside rest q.inside q.closes)
@@ -63,6 +66,7 @@ word_byte_begins b h = (
   false_from_ne_true (b == 34) (λ e. let wrong : is_word_byte 34 ≡ true = rw (eqb-true b 34 e) at h in false≢true wrong),
 )
 
+-- a word in front is the first lexeme
 first_size-word : (lexeme rest : List ℕ) → IsWord lexeme rest → first_size (lexeme ++ rest) ≡ length lexeme
 first_size-word [] rest w = absurd (omega (arith, w.some))
 first_size-word (b ∷ bytes) rest w =
@@ -73,6 +77,7 @@ first_size-word (b ∷ bytes) rest w =
     let no_string : (b == 34) ≡ false = begins.1 in
     rw (no_comment, no_string, in_word) (ap suc (prefix_len-run is_word_byte bytes rest both.1 w.longest))
 
+-- so is a byte that is a lexeme by itself
 first_size-single : {lexeme : List ℕ} (rest : List ℕ) → IsSingle lexeme → first_size (lexeme ++ rest) ≡ length lexeme
 first_size-single rest s =
     let all = or_parts (is_word_byte s.byte || (s.byte == 34)) (s.byte == 35) (not-true _ s.single) in
@@ -111,22 +116,27 @@ lexeme_some (single s) = rw s.spelled (omega arith)
 
 -- ---- there always is a first lexeme
 
+-- a string ends before a line feed
 quoted_feed : (b : ℕ) (bytes : List ℕ) → (b == 10) ≡ true → IsQuoted [] (b ∷ bytes)
 quoted_feed b bytes feed = record { body = []; closing = []; spelled = refl; inside = none; closes = line (not_from_true _ feed) }
 
+-- and with a `"`
 quoted_quote : (b : ℕ) (bytes : List ℕ) → (b == 34) ≡ true → IsQuoted (b ∷ []) bytes
 quoted_quote b bytes e =
     rw (eqb-true b 34 e) (record { body = []; closing = 34 ∷ []; spelled = refl; inside = none; closes = quote })
 
+-- and with a backslash at the end of its line
 quoted_backslash : (b : ℕ) (rest : List ℕ) → (b == 92) ≡ true → EndsRun is_inline rest → IsQuoted (b ∷ []) rest
 quoted_backslash b rest e ends =
     rw (eqb-true b 92 e) (record { body = []; closing = 92 ∷ []; spelled = refl; inside = none; closes = backslash ends })
 
+-- a plain byte belongs to the string
 quoted_plain : (b : ℕ) {tail rest : List ℕ} → (b == 10) ≡ false → (b == 34) ≡ false → (b == 92) ≡ false → IsQuoted tail rest → IsQuoted (b ∷ tail) rest
 quoted_plain b no_feed no_quote no_backslash q =
     let is : IsTrue (is_plain b) = rw (no_quote, no_backslash, no_feed) refl in
     record { body = b ∷ q.body; closing = q.closing; spelled = ap (λ bytes. b ∷ bytes) q.spelled; inside = plain is q.inside; closes = q.closes }
 
+-- and so does a backslash with the byte after it
 quoted_escaped : (b c : ℕ) {tail rest : List ℕ} → (b == 92) ≡ true → (c == 10) ≡ false → IsQuoted tail rest → IsQuoted (b ∷ c ∷ tail) rest
 quoted_escaped b c e no_feed q =
     let is : IsTrue (is_inline c) = rw no_feed refl in

@@ -8,10 +8,12 @@ use Rattle.sg_cut.specs.Lexemes.Closes.{quote, line, backslash}
 use Rattle.sg_cut.specs.Cut.{AreIgnored, Begins, Ends, IsStatement, starts_ignored}
 
 module _ (b : ℕ) (rest rest' : List ℕ) where
+  -- whether a run ends depends on the next byte alone
   EndsRun-other : (test : ℕ → Bool) (front : List ℕ) → EndsRun test (front ++ b ∷ rest) → EndsRun test (front ++ b ∷ rest')
   EndsRun-other test [] ends = ends
   EndsRun-other test (c ∷ front) ends = ends
 
+  -- so does whether a string ends
   Closes-other : {closing : List ℕ} (front : List ℕ) → Closes (front ++ b ∷ rest) closing → Closes (front ++ b ∷ rest') closing
   Closes-other front quote = quote
   Closes-other front (line ends) = line (EndsRun-other is_inline front ends)
@@ -28,6 +30,7 @@ module _ (b : ℕ) (rest rest' : List ℕ) where
       string (record { tail = s.tail; spelled = s.spelled; quoted = record { body = q.body; closing = q.closing; spelled = q.spelled; inside = q.inside; closes = Closes-other front q.closes } })
   IsLexeme-other front (single s) = single s
 
+  -- and what some bytes fall into, in front of the next one
   AreLexemes-other : (lexemes : List (List ℕ)) → AreLexemes lexemes (b ∷ rest) → AreLexemes lexemes (b ∷ rest')
   AreLexemes-other [] are = tt
   AreLexemes-other (lexeme ∷ lexemes) are = (IsLexeme-other (concat lexemes) are.0, AreLexemes-other lexemes are.1)
@@ -61,11 +64,13 @@ Ends-front bytes more size within e =
       statement = rw (take-append-le size bytes more within) at statement;
     }
 
+-- blanks and comments in front of a byte stay so in front of more bytes
 AreIgnored-append : {front : List ℕ} (rest more : List ℕ) → 0 < length rest → AreIgnored front rest → AreIgnored front (rest ++ more)
 AreIgnored-append [] more some s = absurd (omega arith)
 AreIgnored-append (b ∷ rest) more some s =
     record { inside = s.inside; spelled = s.spelled; lexemes = AreLexemes-other b rest (rest ++ more) s.inside s.lexemes; ignored = s.ignored }
 
+-- and that byte stays neither
 starts_ignored-more : (rest more : List ℕ) → 0 < length rest → starts_ignored rest ≡ false → starts_ignored (rest ++ more) ≡ false
 starts_ignored-more [] more some stops = absurd (omega arith)
 starts_ignored-more (b ∷ rest) more some stops = stops

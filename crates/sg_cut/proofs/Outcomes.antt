@@ -1,6 +1,6 @@
 -- What stands first in some bytes: one outcome for each, and the same outcome in front of more bytes.
 use Rattle.std.proofs.Common.{◌≡◌, ◌≢◌, ◌∙◌, ℕ, ◌+◌, ◌-◌, ◌<◌, ◌≤◌, Bool, true, false, List, ◌++◌, length, take, drop, refl, sym, ap, subst, ⊎_elim, arith, length-append, length-take-le}
-use Rattle.std.proofs.lemmas.List.{drop-append-le, length-drop, length-take, take_all, take-append-drop}
+use Rattle.std.proofs.lemmas.List.{drop-append-le, length-drop, length-take, take_all, take-append-drop, take-append-le}
 use Rattle.std.proofs.lemmas.Bool.{both_ways, false≢true, cases_lt}
 use Rattle.sg_cut.specs.declared.outcome.Piece.{Piece}
 use Rattle.sg_cut.specs.declared.outcome.Piece.TheVariants.{Statement, TooLong, Unfinished, End, Waiting}
@@ -40,6 +40,7 @@ no_end_within bytes begin most there none size within e =
     let parted = subst (λ bs. Ends bs size) (sym (take-append-drop most rest)) e in
     none size (Ends-front (take most rest) (drop most rest) size (omega (arith, len)) parted)
 
+-- as much as a statement may have, without end
 pub is_too_long : (bytes : List ℕ) (begin : ℕ) → Begins bytes begin → longest_statement ≤ length (drop begin bytes) → ((size : ℕ) → ¬ Ends (take longest_statement (drop begin bytes)) size) → IsTooLong bytes begin
 is_too_long bytes begin b there none =
     record { begins = b; filled = omega (arith, length-drop begin bytes, b.within); no_end = no_end_within bytes begin longest_statement there none }
@@ -54,28 +55,35 @@ same_statement {bytes} {begin} {end} {begin'} {end'} s s' =
     let e = same_end (from_Ends s.ends) (from_Ends e') in
     (b, omega (arith, e, b, s.some, s'.some))
 
+-- a statement ends where it stands
 no_end_where_statement : {bytes : List ℕ} {begin end begin' : ℕ} → StandsAt bytes begin end → Begins bytes begin' → ((size : ℕ) → size ≤ longest_statement → ¬ Ends (drop begin' bytes) size) → ⊥
 no_end_where_statement {bytes} {begin} {end} {begin'} s b none =
     let same : begin ≡ begin' = same_begin s.begins b in
     none (end - begin) (omega (arith, s.short)) (subst (λ n. Ends (drop n bytes) (end - begin)) same s.ends)
 
+-- no statement stands behind all the bytes
 no_statement_at_end : {bytes : List ℕ} {begin end : ℕ} → StandsAt bytes begin end → Begins bytes (length bytes) → ⊥
 no_statement_at_end {bytes} {begin} {end} s b =
     let same : begin ≡ length bytes = same_begin s.begins b in
     omega (arith, same, s.some, s.within)
 
+-- the outcomes exclude each other
 statement_not_too_long : {bytes : List ℕ} {begin end begin' : ℕ} → StandsAt bytes begin end → IsTooLong bytes begin' → ⊥
 statement_not_too_long s t = no_end_where_statement s t.begins t.no_end
 
+-- a statement is not unfinished
 statement_not_unfinished : {bytes : List ℕ} {whole : Bool} {begin end begin' : ℕ} → StandsAt bytes begin end → IsUnfinished bytes whole begin' → ⊥
 statement_not_unfinished s u = no_end_where_statement s u.begins (λ size small. u.no_end size)
 
+-- nor is one that is too long
 too_long_not_unfinished : {bytes : List ℕ} {whole : Bool} {begin begin' : ℕ} → IsTooLong bytes begin → IsUnfinished bytes whole begin' → ⊥
 too_long_not_unfinished t u = omega (arith, same_begin t.begins u.begins, t.filled, u.few)
 
+-- which is not the end either
 too_long_not_at_end : {bytes : List ℕ} {whole : Bool} {begin : ℕ} → IsTooLong bytes begin → IsAtEnd bytes whole → ⊥
 too_long_not_at_end t e = omega (arith, same_begin t.begins e.nothing_left, t.filled)
 
+-- nor is one without end
 unfinished_not_at_end : {bytes : List ℕ} {whole : Bool} {begin : ℕ} → IsUnfinished bytes whole begin → IsAtEnd bytes whole → ⊥
 unfinished_not_at_end u e = omega (arith, same_begin u.begins e.nothing_left, u.some)
 
@@ -138,10 +146,12 @@ is_unfinished bytes whole begin all b some few none =
 abbrev pub Found : List ℕ → Bool → Type 0
 Found bytes whole = (piece : Piece) × Cut bytes whole piece × (whole ≡ true → piece ≢ Waiting)
 
+-- nothing but blanks and comments
 found_at_end : (bytes : List ℕ) (whole : Bool) → Begins bytes (length bytes) → Found bytes whole
 found_at_end bytes true b = (End, record { complete = refl; nothing_left = b }, λ all is. cc)
 found_at_end bytes false b = (Waiting, waits_behind_ignored bytes false refl b, λ all is. false≢true all)
 
+-- fewer bytes than a statement may have, none of which ends it
 found_without_end : (bytes : List ℕ) (whole : Bool) (begin : ℕ) → Begins bytes begin → begin < length bytes → length bytes < begin + longest_statement → ((size : ℕ) → ¬ Ends (drop begin bytes) size) → Found bytes whole
 found_without_end bytes true begin b some few none = (Unfinished begin, is_unfinished bytes true begin refl b some few none, λ all is. cc)
 found_without_end bytes false begin b some few none = (Waiting, waits_inside bytes false begin refl b few none, λ all is. false≢true all)
@@ -172,6 +182,7 @@ found_among_many bytes whole begin b many =
     (TooLong begin, is_too_long bytes begin b many (λ size ends. none size (from_Ends ends)), λ all is. cc))
     (end_or_none (length front) 0 front (omega arith))
 
+-- a statement begins
 found_inside : (bytes : List ℕ) (whole : Bool) (begin : ℕ) → Begins bytes begin → begin < length bytes → Found bytes whole
 found_inside bytes whole begin b some =
     ⊎_elim (found_among_few bytes whole begin b some) (found_among_many bytes whole begin b) (cases_lt (length (drop begin bytes)) longest_statement)
@@ -205,6 +216,17 @@ statement-append bytes more begin end s =
       short = s.short;
     }
 
+-- with the same text
+pub text-append : (bytes more : List ℕ) (begin end : ℕ) → StandsAt bytes begin end → take (end - begin) (drop begin (bytes ++ more)) ≡ take (end - begin) (drop begin bytes)
+text-append bytes more begin end s =
+    let within : begin ≤ length bytes = s.begins.within in
+    let inside : end - begin ≤ length (drop begin bytes) = s.ends.within in
+    ap (take (end - begin)) (drop-append-le begin bytes more within) ∙ take-append-le (end - begin) (drop begin bytes) more inside
+
+-- and what follows it is what followed, and more
+pub rest-append : (bytes more : List ℕ) (begin end : ℕ) → StandsAt bytes begin end → drop end (bytes ++ more) ≡ drop end bytes ++ more
+rest-append bytes more begin end s = drop-append-le end bytes more s.within
+
 -- what is too long stays so
 pub too_long-append : (bytes more : List ℕ) (begin : ℕ) → IsTooLong bytes begin → IsTooLong (bytes ++ more) begin
 too_long-append bytes more begin t =
@@ -221,12 +243,14 @@ too_long-append bytes more begin t =
 -- ---- what the code has looked at: the bytes behind `begin`, and as many of them as a statement may have
 
 module _ (bytes rest window : List ℕ) (begin most : ℕ) (b : Begins bytes begin) (behind : rest ≡ drop begin bytes) (front : window ≡ take most rest) where
+  -- an end in the window is that of the statement
   pub statement_in_window : (size : ℕ) → most ≤ longest_statement → Ends window size → StandsAt bytes begin (begin + size)
   statement_in_window size small e =
       let same : window ≡ take most (drop begin bytes) = front ∙ ap (take most) behind in
       let w = e.within in
       finds_statement bytes begin most size b small (subst (λ bs. Ends bs size) same e) (omega (arith, w, ap length front, length-take most rest))
 
+  -- a full window without end is a statement that is too long
   pub too_long_in_window : most ≤ longest_statement → length window ≡ longest_statement → ((size : ℕ) → ¬ Ends window size) → IsTooLong bytes begin
   too_long_in_window small filled none =
       let len = length-take most rest in

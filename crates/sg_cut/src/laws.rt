@@ -1,6 +1,6 @@
 //! Laws of what stands first in some bytes: each is the contract of a function without parameters.
 
-ghost use Rattle.std.specs.Prelude.{◌≡◌, ℕ, ◌+◌, ◌<◌, ◌≤◌, Bool, true, false, List, ◌++◌, length, take, drop};
+ghost use Rattle.std.specs.Prelude.{◌≡◌, ℕ, ◌+◌, ◌<◌, ◌≤◌, Bool, true, false, List, ◌++◌, length, take, drop, slice_range};
 ghost use Rattle.sg_cut.specs.declared.outcome.Piece.{Piece};
 ghost use Rattle.sg_cut.specs.Cut.{Begins, Cut};
 ghost use Rattle.sg_cut.specs.Lines.{count_of_line_feeds, line_of};
@@ -12,9 +12,12 @@ pub fn one_outcome()
     ensures not_waiting { (bytes : List ℕ) → ¬ Cut bytes true Piece.Waiting }
 {}
 
-/// A statement, and one that is too long, stay so whatever follows, and whether or not there may be more.
+/// A statement, and one that is too long, stay so whatever follows, and whether or not there may be more: the text is
+/// the same, and what follows it is longer.
 pub fn settled()
     ensures statement { (bytes more : List ℕ) (whole later : Bool) (begin end : ℕ) → Cut bytes whole (Piece.Statement begin end) → Cut (bytes ++ more) later (Piece.Statement begin end) }
+    ensures text { (bytes more : List ℕ) (whole : Bool) (begin end : ℕ) → Cut bytes whole (Piece.Statement begin end) → slice_range (bytes ++ more) begin end ≡ slice_range bytes begin end }
+    ensures rest { (bytes more : List ℕ) (whole : Bool) (begin end : ℕ) → Cut bytes whole (Piece.Statement begin end) → drop end (bytes ++ more) ≡ drop end bytes ++ more }
     ensures too_long { (bytes more : List ℕ) (whole later : Bool) (begin : ℕ) → Cut bytes whole (Piece.TooLong begin) → Cut (bytes ++ more) later (Piece.TooLong begin) }
 {}
 
