@@ -4,3 +4,4 @@ pub mod AddedLemmas
 pub mod SymmetryLemmas
 pub mod IrreducibleLemmas
 pub mod TestLemmas
+pub mod CoverLemmas
