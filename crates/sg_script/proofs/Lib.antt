@@ -1,0 +1,9 @@
+pub mod OnwardLemmas
+pub mod SignLemmas
+pub mod BeginLemmas
+pub mod ChainLemmas
+pub mod AtomLemmas
+pub mod ArgumentLemmas
+pub mod BracketLemmas
+pub mod Weights
+pub mod ExitLemmas

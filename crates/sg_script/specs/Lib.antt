@@ -1,0 +1,4 @@
+pub mod Signs
+pub mod Grammar
+pub mod Literals
+pub mod Reading
