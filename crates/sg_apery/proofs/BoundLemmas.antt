@@ -1,9 +1,8 @@
 -- Where the generators are at most B, the entries of an Apery list are at most B times their number.
-use Rattle.std.proofs.Common.{◌≡◌, ℕ, zero, suc, ◌+◌, ◌-◌, ◌*◌, ◌%◌, ◌<◌, ◌≤◌, cond, List, [], ◌∷◌, length, get_or, sym, ap, subst, ◌∙◌, inl, inr, arith}
-use Rattle.std.specs.Prelude.{nat_lt, ◌⊎◌, Bool, true, false}
+use Rattle.std.proofs.Common.{◌≡◌, ℕ, zero, suc, ◌+◌, ◌*◌, ◌%◌, ◌<◌, ◌≤◌, cond, List, [], ◌∷◌, length, get_or, ap, subst, inl, inr, arith}
+use Rattle.std.specs.Prelude.{nat_lt}
 use Rattle.std.proofs.lemmas.Bool.{cases_lt, lt-ltb, le-ltb}
 use Rattle.std.proofs.lemmas.Nat.{mod_below}
-use Rattle.std.proofs.Math.Nat.{mul-le-mul_left}
 use Rattle.sg_defs.specs.Membership.{IsMember}
 use Rattle.sg_defs.proofs.MembershipLemmas.{member-zero, member-add, member-entry, member-times}
 use Rattle.sg_apery.specs.Table.{IsAperyTable}

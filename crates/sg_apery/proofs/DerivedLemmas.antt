@@ -1,5 +1,5 @@
 -- Intersections and quotients by their residue classes.
-use Rattle.std.proofs.Common.{◌≡◌, ℕ, zero, suc, ◌+◌, ◌-◌, ◌*◌, ◌/◌, ◌^◌, ◌%◌, ◌<◌, ◌≤◌, ◌↔◌, List, length, get_or, max, refl, sym, ap, subst, ◌∙◌, inl, inr, arith}
+use Rattle.std.proofs.Common.{◌≡◌, ℕ, ◌+◌, ◌^◌, ◌%◌, ◌<◌, ◌≤◌, ◌↔◌, List, length, get_or, max, sym, ap, subst, ◌∙◌, inl, inr, arith}
 use Rattle.std.specs.Prelude.{◌⊎◌}
 use Rattle.std.proofs.lemmas.Bool.{cases_lt}
 use Rattle.std.proofs.lemmas.Nat.{mod_below}
@@ -11,8 +11,7 @@ use Rattle.sg_apery.specs.Conditions.{IsInBoth}
 use Rattle.sg_apery.specs.Fit.{IsSizeFault, IsTooLarge}
 use Rattle.sg_apery.specs.declared.fault.TableFault.{TableFault}
 use Rattle.sg_apery.specs.declared.fault.TableFault.TheVariants.{BadArgument, TooLarge, Memory}
-use Rattle.sg_apery.specs.Table.{IsAperyTable}
-use Rattle.sg_apery.proofs.AperyLemmas.{apery-member, member-decided}
+use Rattle.sg_apery.proofs.AperyLemmas.{apery-member}
 use Rattle.sg_apery.proofs.ExistsLemmas.{IsCofinite, generates-exists}
 use Rattle.sg_apery.proofs.KunzLemmas.{above-entry, residue-sum, zero-residue}
 

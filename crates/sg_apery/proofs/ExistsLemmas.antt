@@ -1,6 +1,6 @@
 -- A set of naturals that is closed under sums and has all from a number on is a numerical semigroup: it has a minimal list.
-use Rattle.std.proofs.Common.{◌≡◌, ◌≢◌, ℕ, zero, suc, ◌+◌, ◌-◌, ◌*◌, ◌<◌, ◌≤◌, ◌↔◌, List, [], ◌∷◌, ◌++◌, length, get_or, refl, sym, ap, subst, ◌∙◌, inl, inr, arith}
-use Rattle.std.specs.Prelude.{Contains, remove, ◌⊎◌, AllPairs}
+use Rattle.std.proofs.Common.{◌≡◌, ◌≢◌, ℕ, zero, suc, ◌+◌, ◌-◌, ◌*◌, ◌<◌, ◌≤◌, List, [], ◌∷◌, ◌++◌, length, get_or, sym, subst, inl, inr, arith}
+use Rattle.std.specs.Prelude.{Contains, remove, ◌⊎◌}
 use Rattle.std.specs.Int.{◌∣◌}
 use Rattle.std.specs.List.Sorted.{IsStrictlyIncreasing}
 use Rattle.std.proofs.lemmas.Bool.{cases_lt, cases_eq}
@@ -10,9 +10,9 @@ use Rattle.std.proofs.lemmas.List.Elements.{All-from_get_or, Contains-append_lef
 use Rattle.std.proofs.lemmas.List.Edits.{get_or-remove_below, get_or-remove_above, length-remove}
 use Rattle.std.proofs.lemmas.List.Kept.{AllPairs-from_increasing}
 use Rattle.std.proofs.Math.Nat.{dvd-add_iff_left}
-use Rattle.sg_defs.specs.Membership.{IsMember, IsNumericalSemigroup, Generates}
+use Rattle.sg_defs.specs.Membership.{IsMember, Generates}
 use Rattle.sg_defs.proofs.MembershipLemmas.{member-zero, member-add, member-entry, member-induction}
-use Rattle.sg_apery.proofs.GeneratorLemmas.{contains-place, place-contains, member-listed, member-split, member-divides, holds-from_entries, push_cases}
+use Rattle.sg_apery.proofs.GeneratorLemmas.{place-contains, member-listed, member-split, member-divides, holds-from_entries, push_cases}
 
 -- P has 0 and the sums of its numbers, has all from c on, and says of each number whether it has it
 pub record IsCofinite (P : ℕ → Type 0) (c : ℕ) : Type 0 where

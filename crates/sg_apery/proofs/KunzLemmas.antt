@@ -1,6 +1,6 @@
 -- A list that meets Kunz's conditions is the Apery list of the numerical semigroup of the numbers above its entries.
 use Rattle.std.proofs.Common.{◌≡◌, ℕ, zero, suc, ◌+◌, ◌-◌, ◌*◌, ◌/◌, ◌^◌, ◌%◌, ◌<◌, ◌≤◌, ◌↔◌, List, length, get_or, set, refl, sym, ap, subst, ◌∙◌, inl, inr, arith}
-use Rattle.std.specs.Prelude.{Contains, IsTrue, nat_le, ◌⊎◌}
+use Rattle.std.specs.Prelude.{Contains, IsTrue, nat_le}
 use Rattle.std.specs.Int.{◌∣◌}
 use Rattle.std.proofs.lemmas.Bool.{cases_lt, cases_eq, leb-true, le-leb}
 use Rattle.std.proofs.lemmas.Nat.{mod_below}

@@ -1,8 +1,8 @@
 -- The least number of a residue class whose product with d is above its entry.
-use Rattle.std.proofs.Common.{◌≡◌, ℕ, zero, suc, ◌+◌, ◌-◌, ◌*◌, ◌/◌, ◌%◌, ◌<◌, ◌≤◌, ◌↔◌, List, length, get_or, min, refl, sym, ap, subst, ◌∙◌, inl, inr, arith}
+use Rattle.std.proofs.Common.{◌≡◌, ℕ, suc, ◌+◌, ◌-◌, ◌*◌, ◌/◌, ◌%◌, ◌<◌, ◌≤◌, ◌↔◌, List, length, get_or, min, refl, sym, ap, subst, ◌∙◌, inl, inr, arith}
 use Rattle.std.proofs.lemmas.Bool.{cases_lt}
 use Rattle.std.proofs.lemmas.Grind.{div_ceil_times}
-use Rattle.std.proofs.lemmas.Nat.{mul-mod, mul-mod_first, mod_below}
+use Rattle.std.proofs.lemmas.Nat.{mul-mod, mod_below}
 use Rattle.std.proofs.Math.Nat.{mod-le, mod-eq_of_lt, mod-add-div, mul-le-mul_left, add-mul-mod_self_right}
 use Rattle.sg_defs.specs.Membership.{IsMember, IsNumericalSemigroup}
 use Rattle.sg_defs.specs.Apery.{IsApery}

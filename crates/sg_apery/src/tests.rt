@@ -1,6 +1,6 @@
 //! Each public call once, with ample memory.
 
-use crate::{Table, TableFault};
+use crate::{Table, TableFault, intersect, quotient};
 use std::test::Fail;
 
 #[test]
@@ -40,5 +40,49 @@ fn the_table_of_3_5_7(rt: HostRuntime) -> Result<(), Fail> {
     assert!(rt; !table.contains(4));
     assert!(rt; table.contains(5));
     assert!(rt; !table.contains(-3));
+    Ok(())
+}
+
+#[test]
+fn a_table_from_its_apery_list(rt: HostRuntime) -> Result<(), Fail> {
+    let table = Table::from_apery(rt.alloc(), &[0, 7, 5])?;
+    assert_eq!(rt; table.generators().as_slice(), [3, 5, 7].as_slice());
+    assert!(rt;
+        matches!(
+            Table::from_apery(rt.alloc(), &[0, 10, 2]),
+            Err(TableFault::BadArgument)
+        )
+    );
+    Ok(())
+}
+
+#[test]
+fn an_intersection(rt: HostRuntime) -> Result<(), Fail> {
+    let first = Table::from_generators(rt.alloc(), &[3, 4])?;
+    let second = Table::from_generators(rt.alloc(), &[3, 5, 7])?;
+    let both = intersect(rt.alloc(), &first, &second)?;
+    assert_eq!(rt; both.generators().as_slice(), [3, 7, 8].as_slice());
+    Ok(())
+}
+
+#[test]
+fn a_quotient(rt: HostRuntime) -> Result<(), Fail> {
+    let table = Table::from_generators(rt.alloc(), &[3, 5])?;
+    let half = quotient(rt.alloc(), &table, 2)?;
+    assert_eq!(rt; half.generators().as_slice(), [3, 4, 5].as_slice());
+    assert!(rt;
+        matches!(
+            quotient(rt.alloc(), &table, 0),
+            Err(TableFault::BadArgument)
+        )
+    );
+    Ok(())
+}
+
+#[test]
+fn lists_modulo_other_members(rt: HostRuntime) -> Result<(), Fail> {
+    let table = Table::from_generators(rt.alloc(), &[3, 5, 7])?;
+    let again = Table::of_minimal(rt.alloc(), table.generators())?;
+    assert_eq!(rt; again.apery(), [0, 7, 5].as_slice());
     Ok(())
 }

@@ -1,7 +1,7 @@
-use Rattle.std.proofs.Common.{◌≡◌, ℕ, ◌*◌, ◌<◌, ◌↔◌, List, sym, subst, arith}
+use Rattle.std.proofs.Common.{◌≡◌, ℕ, ◌↔◌, List, sym, subst, arith}
 use Rattle.std.proofs.lemmas.Result.{IfOk-weaker, IfErr-weaker}
 use Rattle.sg_defs.specs.Membership.{Generates}
-use Rattle.sg_apery.specs.Classes.{IsAboveEntry, IsClassList, IsKunz}
+use Rattle.sg_apery.specs.Classes.{IsAboveEntry, IsKunz}
 use Rattle.sg_apery.specs.Conditions.{IsInQuotient, IsQuotientRefused}
 use Rattle.sg_apery.specs.Fit.{IsSizeFault}
 use Rattle.sg_apery.specs.declared.fault.TableFault.{TableFault}

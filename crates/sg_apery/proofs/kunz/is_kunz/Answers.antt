@@ -1,4 +1,4 @@
-use Rattle.std.proofs.Common.{◌≡◌, ℕ, ◌<◌, length, get_or, refl, sym, subst}
+use Rattle.std.proofs.Common.{ℕ, ◌<◌, length, get_or, refl, sym, subst}
 use Rattle.sg_apery.specs.Classes.{AreClassGenerators}
 use Rattle.sg_apery.specs.Minimal.{IsPartOf}
 use Rattle.sg_apery.proofs.KunzLemmas.{class-positive, kunz-closed, closed-part}

@@ -1,4 +1,4 @@
-use Rattle.std.proofs.Common.{◌/◌, ◌+◌, ◌<◌, get_or, arith}
+use Rattle.std.proofs.Common.{arith}
 use Rattle.sg_apery.proofs.GeneratorLemmas.{spare-none, more-than_half}
 use Rattle.sg_apery.proofs.minimal.is_spare.Goals as goal
 

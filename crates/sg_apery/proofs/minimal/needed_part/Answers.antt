@@ -1,4 +1,4 @@
-use Rattle.std.proofs.Common.{ℕ, ◌<◌, List, length, get_or, refl, sym, subst, arith}
+use Rattle.std.proofs.Common.{get_or, refl, sym, subst, arith}
 use Rattle.sg_apery.specs.Minimal.{IsSpare}
 use Rattle.sg_apery.proofs.GeneratorLemmas.{part-none, part-push, part-skip}
 use Rattle.sg_apery.proofs.minimal.needed_part.Goals as goal

@@ -1,4 +1,4 @@
-use Rattle.std.proofs.Common.{◌≡◌, ℕ, ◌<◌, false, true, length, sum}
+use Rattle.std.proofs.Common.{◌≡◌, ℕ, ◌<◌, false, true, sum}
 use Rattle.sg_apery.specs.Relaxation.{IsSound, IsSettledFrom}
 use Rattle.sg_apery.proofs.relaxation.relax_along.Given as goal
 
