@@ -1,0 +1,5 @@
+pub mod Replying
+pub mod Signed
+pub mod Remainders
+pub mod Entries
+pub mod Integers

@@ -1,0 +1,13 @@
+-- Signed numbers, as calls are given them.
+use Rattle.std.proofs.Common.{◌≡◌, ℕ, ℤ, subst, sym}
+use Rattle.std.specs.Prelude.{FitsSigned}
+use Rattle.std.specs.Int.{w64}
+use mir.Val.{to_z, of_z}
+use Rattle.std.proofs.lemmas.Int.{to_z-of_z}
+
+-- what holds of the numbers as calls are given them holds of the numbers
+pub of_bits : (P : ℤ → ℤ → Type 0) (x y : ℤ) → FitsSigned w64 x → FitsSigned w64 y → P (to_z w64 (of_z w64 x)) (to_z w64 (of_z w64 y)) → P x y
+of_bits P x y f g h = subst (λ z. P x z) (to_z-of_z w64 y g) (subst (λ z. P z (to_z w64 (of_z w64 y))) (to_z-of_z w64 x f) h)
+
+pub of_bits_right : (P : ℤ → Type 0) (x : ℤ) → FitsSigned w64 x → P (to_z w64 (of_z w64 x)) → P x
+of_bits_right P x f h = subst P (to_z-of_z w64 x f) h

@@ -1,0 +1,43 @@
+-- The rows of the operators.
+use Rattle.std.specs.Prelude.{◌≡◌, ℕ, ℤ, pos, ◌+ℤ◌, ◌-ℤ◌, ◌*ℤ◌, ◌≤ℤ◌, ◌<ℤ◌, List, Option, Some, None}
+use Rattle.sg_value.specs.Data.{Data, int, truth, text, list, fail, semigroup, Items}
+use Rattle.sg_calls.specs.Order.{Plain, Row, Case, unfit, fits}
+use Rattle.sg_calls.specs.Kinds.{given, as_list, as_integer, answers, an_integer, whether}
+use Rattle.sg_calls.specs.Words.{IsRemainder, IsEntry}
+use Rattle.sg_calls.specs.declared.operator.Operator.{Operator}
+use Rattle.sg_calls.specs.declared.operator.Operator.TheVariants.{Plus, Less, Times, Mod, Eq, Ne, Lt, Le, Gt, Ge, Member}
+
+-- what the row of an operator on integers says of them
+abbrev pub calculation : Operator → ℤ → ℤ → Case
+calculation Plus x y = fits (answers (λ d. d ≡ int (x +ℤ y)))
+calculation Less x y = fits (answers (λ d. d ≡ int (x -ℤ y)))
+calculation Times x y = fits (answers (λ d. d ≡ int (x *ℤ y)))
+calculation Mod x y = fits (record (answers (an_integer (IsRemainder x y))) { bad = y ≡ pos 0 })
+calculation Lt x y = fits (answers (whether (x <ℤ y)))
+calculation Le x y = fits (answers (whether (x ≤ℤ y)))
+calculation Gt x y = fits (answers (whether (y <ℤ x)))
+calculation Ge x y = fits (answers (whether (y ≤ℤ x)))
+calculation Eq x y = unfit
+calculation Ne x y = unfit
+calculation Member x y = unfit
+
+abbrev pub of_integers : Operator → Plain → Plain → Case
+of_integers op a b = given (as_integer a) (λ x. given (as_integer b) (λ y. calculation op x y))
+
+-- what the row of an operator says of its operands
+abbrev pub operation : Operator → Plain → Plain → Case
+operation Eq a b = fits (answers (whether (a ≡ b)))
+operation Ne a b = fits (answers (whether (a ≡ b → ⊥)))
+operation Member a b = given (as_list b) (λ ds. fits (answers (whether (IsEntry a ds))))
+operation Plus a b = of_integers Plus a b
+operation Less a b = of_integers Less a b
+operation Times a b = of_integers Times a b
+operation Mod a b = of_integers Mod a b
+operation Lt a b = of_integers Lt a b
+operation Le a b = of_integers Le a b
+operation Gt a b = of_integers Gt a b
+operation Ge a b = of_integers Ge a b
+
+-- what the row of the minus sign says of its operand
+abbrev pub negation : Plain → Case
+negation a = given (as_integer a) (λ x. fits (answers (λ d. d ≡ int (pos 0 -ℤ x))))

@@ -1,0 +1,135 @@
+//! Operators on their operands.
+
+ghost use Rattle.std.specs.Prelude.{◌≡◌, ◌-ℤ◌, pos, ℕ, ℤ, List, Option, SomeIff, FitsSigned, IfErr, IsTrue, ◌↔◌, slice_get};
+ghost use Rattle.std.specs.Int.{w64};
+ghost use Rattle.sg_value.specs.Data.{int, EachSemigroup};
+ghost use Rattle.sg_value.specs.Plain.{contents, contents_of_all, plain, AllKnown, AllKnownIn, plain_of_all};
+ghost use Rattle.sg_store.specs.Interned.{Keeps};
+ghost use Rattle.sg_calls.specs.Order.{fits};
+ghost use Rattle.sg_calls.specs.Kinds.{answers};
+ghost use Rattle.sg_calls.specs.Words.{IsEntry};
+ghost use Rattle.sg_calls.specs.Operations.{calculation, operation, negation, of_integers};
+ghost use Rattle.sg_calls.specs.Answers.{Replies};
+
+use crate::fault::{CallFault, Fault};
+use crate::kinds::{entries_of, integer_of, truth};
+use crate::operator::Operator;
+use sg_store::Store;
+use sg_value::Value;
+use std::alloc::Global;
+
+/// The integer, or that it is outside of 64 bits.
+pub fn integer(found: Option<i64>) -> Result<Value, CallFault>
+    ensures { (store : List (List ℕ)) (z : ℤ) → SomeIff found (FitsSigned w64 z) z → Replies result store (fits (answers (λ d. d ≡ int z))) }
+{
+    match found {
+        Some(z) => Ok(Value::Int(z)),
+        None => Err(CallFault::Script(Fault::Overflow)),
+    }
+}
+
+/// The remainder that is not negative.
+fn remainder(x: i64, y: i64) -> Result<Value, CallFault>
+    ensures { (store : List (List ℕ)) → Replies result store (calculation Operator.Mod x y) }
+{
+    if y == 0 {
+        return Err(CallFault::Script(Fault::BadArgument));
+    }
+    Ok(Value::Int(x.wrapping_rem_euclid(y)))
+}
+
+/// What the operator gives of two integers.
+fn calculate(op: Operator, x: i64, y: i64) -> Result<Value, CallFault>
+    ensures { (store : List (List ℕ)) → Replies result store (calculation op x y) }
+{
+    match op {
+        Operator::Plus => integer(x.checked_add(y)),
+        Operator::Less => integer(x.checked_sub(y)),
+        Operator::Times => integer(x.checked_mul(y)),
+        Operator::Mod => remainder(x, y),
+        Operator::Lt => Ok(truth(x < y)),
+        Operator::Le => Ok(truth(x <= y)),
+        Operator::Gt => Ok(truth(x > y)),
+        Operator::Ge => Ok(truth(x >= y)),
+        Operator::Eq | Operator::Ne | Operator::Member => {
+            Err(CallFault::Script(Fault::WrongType))
+        }
+    }
+}
+
+/// What the operator gives where both operands are integers.
+fn on_integers(op: Operator, a: &Value, b: &Value) -> Result<Value, CallFault>
+    ensures { (store : List (List ℕ)) → Replies result store (of_integers op (plain (slice_get store) a.now) (plain (slice_get store) b.now)) }
+{
+    let Some(x) = integer_of(a) else {
+        return Err(CallFault::Script(Fault::WrongType));
+    };
+    let Some(y) = integer_of(b) else {
+        return Err(CallFault::Script(Fault::WrongType));
+    };
+    calculate(op, x, y)
+}
+
+/// The integer with the other sign.
+pub fn negate(a: &Value) -> Result<Value, CallFault>
+    ensures { (store : List (List ℕ)) → Replies result store (negation (plain (slice_get store) a.now)) }
+{
+    let Some(x) = integer_of(a) else {
+        return Err(CallFault::Script(Fault::WrongType));
+    };
+    integer(0i64.checked_sub(x))
+}
+
+/// Whether the value is an entry of the list.
+fn is_among(store: &Store, v: &Value, entries: &[Value]) -> bool
+    requires value { AllKnown (slice_get store.now) v.now }
+    requires entries { AllKnownIn (slice_get store.now) entries.now }
+    ensures { IsTrue result ↔ IsEntry (plain (slice_get store.now) v.now) (plain_of_all (slice_get store.now) entries.now) }
+{
+    for entry in entries {
+        if store.equal(v, entry) {
+            return true;
+        }
+    }
+    false
+}
+
+/// Whether a list has the value as an entry.
+fn member(store: &Store, v: &Value, list: &Value) -> Result<Value, CallFault>
+    requires value { AllKnown (slice_get store.now) v.now }
+    requires list { AllKnown (slice_get store.now) list.now }
+    ensures { Replies result store.now (operation Operator.Member (plain (slice_get store.now) v.now) (plain (slice_get store.now) list.now)) }
+{
+    let Some(entries) = entries_of(list) else {
+        return Err(CallFault::Script(Fault::WrongType));
+    };
+    Ok(truth(is_among(store, v, entries)))
+}
+
+/// What an operator gives of its operands.
+pub fn combine(
+    _alloc: Global,
+    store: &mut Store,
+    op: Operator,
+    a: &Value,
+    b: &Value,
+) -> Result<Value, CallFault>
+    requires left { AllKnown (slice_get store.old) a.now }
+    requires right { AllKnown (slice_get store.old) b.now }
+    ensures reply { Replies result store.new (operation op (plain (slice_get store.old) a.now) (plain (slice_get store.old) b.now)) }
+    ensures keeps { Keeps store.old store.new }
+{
+    match op {
+        Operator::Eq => Ok(truth(store.equal(a, b))),
+        Operator::Ne => Ok(truth(!store.equal(a, b))),
+        Operator::Member => member(store, a, b),
+        Operator::Plus
+        | Operator::Less
+        | Operator::Times
+        | Operator::Mod
+        | Operator::Lt
+        | Operator::Le
+        | Operator::Gt
+        | Operator::Ge => on_integers(op, a, b),
+    }
+}

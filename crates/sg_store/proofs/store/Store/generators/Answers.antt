@@ -1,0 +1,17 @@
+use Rattle.std.proofs.Common.{◌≡◌, slice_get, Some, ap, sym, ◌∙◌, subst}
+use Rattle.std.specs.Option.{option_map}
+use Rattle.std.proofs.lemmas.Option.{slice_get-map}
+use Rattle.sg_value.specs.Plain.{AreDistinct}
+use Rattle.sg_store.specs.Held.{lists_of}
+use Rattle.sg_store.specs.declared.key.Key.{Key}
+use Rattle.sg_store.proofs.Interning.{unique_injective}
+use Rattle.sg_store.proofs.store.Store.generators.Goals as goal
+
+pub returns-clause-fit : goal.returns-clause-fit
+returns-clause-fit c =
+    let keys = c.self.inside.keys.keys in
+    let at : slice_get keys c.args.id ≡ Some c.in-Some.key.now = ap (slice_get keys) (sym c.index.ensures) ∙ sym c.in-Some.ensures.key in
+    c.self.invariant.fit c.args.id c.in-Some.key.now.list (slice_get-map (λ (k : Key). k.list) keys c.args.id ∙ ap (option_map (λ (k : Key). k.list)) at)
+
+pub returns-clause-distinct : goal.returns-clause-distinct
+returns-clause-distinct c = subst (λ l. AreDistinct (slice_get l)) c.self.view_is (unique_injective c.self.inside.keys.keys c.self.invariant.unique)

@@ -1,0 +1,31 @@
+use Rattle.sg_store.proofs.store.Store.intern.Goals as goal
+use Rattle.std.proofs.Common.{slice_get, ap, sym, ◌∙◌, subst}
+use Rattle.std.specs.List.{IsDistinct}
+use Rattle.sg_store.specs.Held.{lists_of, same_key}
+use Rattle.sg_store.specs.Interned.{IsInterned}
+use Rattle.sg_store.specs.declared.key.Key.{Key}
+use Rattle.sg_store.proofs.Interning.{AllFit, fit_inserted, interned}
+
+pub invariant_of-self : goal.invariant_of-self
+invariant_of-self c = record {
+  fit = subst AllFit (sym c.in_err-index.ensures.err) c.self.invariant.fit;
+  unique = c.insert_full.ensures.unique;
+}
+
+pub invariant_of-self-2 : goal.invariant_of-self-2
+invariant_of-self-2 c = record {
+  fit = subst AllFit (sym c.in_ok-index.ensures.keys) (fit_inserted c.self.inside.keys.keys (record { list = c.args.gens }) c.self.invariant.fit c.requires);
+  unique = c.insert_full.ensures.unique;
+}
+
+pub returns-clause-interned : goal.returns-clause-interned
+returns-clause-interned c =
+    let old = c.self.inside.keys.keys in
+    let k : Key = record { list = c.args.gens } in
+    let stored = c.in_ok-index.ensures.stored in
+    let keys = c.in_ok-index.ensures.keys in
+    let id = c.in_ok-index.index in
+    let here = interned old k stored.0 id (ap (λ l. slice_get l id) (sym keys) ∙ stored.1) stored.2 (subst (λ l. IsDistinct same_key l) keys c.insert_full.ensures.unique) in
+    let seen = subst (λ l. IsInterned (lists_of old) (lists_of l) c.args.gens id) (sym keys) here in
+    let named = subst (λ l. IsInterned l (lists_of c.insert_full.new.self.keys) c.args.gens id) c.self.view_is seen in
+    subst (λ i. IsInterned c.args.self.now (lists_of c.insert_full.new.self.keys) c.args.gens i) (sym c.new.ensures) named
