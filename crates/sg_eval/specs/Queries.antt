@@ -1,0 +1,67 @@
+-- What a statement asks for while it runs, and what is answered.
+use Rattle.std.specs.Prelude.{◌≡◌, ◌⊎◌, ℕ, zero, suc, ℤ, pos, negsuc, ◌<ℤ◌, ◌≤ℤ◌, ◌-ℤ◌, ◌+ℤ◌, List, Option, Some, None, Result, Ok, Err}
+use Rattle.sg_value.specs.Data.{Data, int, truth, text, list, fail, semigroup, Items, none, item}
+use Rattle.sg_calls.specs.Order.{Plain, Reply, Row, Case, unfit, fits, Checks, passed, check, FirstOf, IsReply}
+use Rattle.sg_calls.specs.Kinds.{given, as_integer, as_list, answers}
+use Rattle.sg_calls.specs.Operations.{operation, negation}
+use Rattle.sg_calls.specs.Answers.{Answer}
+use Rattle.sg_calls.specs.declared.operator.Operator.{Operator}
+use Rattle.sg_calls.specs.declared.fault.Fault.{Fault}
+use Rattle.sg_calls.specs.declared.fault.Fault.TheVariants.{WrongType, IndexOut}
+
+pub data Query : Type 0 where
+  -- a command of arguments
+  calls : List ℕ → Items (List ℕ) → Query
+  -- an operator of two operands
+  combines : Operator → Plain → Plain → Query
+  -- the minus sign
+  negates : Plain → Query
+  -- the list of these entries
+  lists : Items (List ℕ) → Query
+  -- the list of the integers from the first to the second
+  spans : Plain → Plain → Query
+  -- an entry of a list by its place
+  indexes : Plain → Plain → Query
+
+-- so many integers from the first on
+abbrev pub integers_from : ℤ → ℕ → Items (List ℕ)
+integers_from z zero = none
+integers_from z (suc n) = item (int z) (integers_from (z +ℤ pos 1) n)
+
+-- how many integers there are from the first to the second
+abbrev pub span_count : ℤ → ℕ
+span_count (pos n) = suc n
+span_count (negsuc n) = 0
+
+abbrev pub span_of : Plain → Plain → Case
+span_of a b = given (as_integer a) (λ x. given (as_integer b) (λ y. fits (answers (λ d. d ≡ list (integers_from x (span_count (y -ℤ x)))))))
+
+-- the entry at a place, counted from 1 on
+abbrev pub entry_at : Items (List ℕ) → ℕ → Option Plain
+entry_at none n = None
+entry_at (item d ds) zero = None
+entry_at (item d ds) (suc zero) = Some d
+entry_at (item d ds) (suc (suc n)) = entry_at ds (suc n)
+
+abbrev pub entry_at_integer : Items (List ℕ) → ℤ → Option Plain
+entry_at_integer ds (pos n) = entry_at ds n
+entry_at_integer ds (negsuc n) = None
+
+abbrev pub found_or_out : Option Plain → Reply
+found_or_out (Some d) = Ok d
+found_or_out None = Err IndexOut
+
+-- the entry of a list at an integer, or that there is none
+abbrev pub item_of : Option (Items (List ℕ)) → Option ℤ → Reply
+item_of None i = Err WrongType
+item_of (Some ds) None = Err WrongType
+item_of (Some ds) (Some z) = found_or_out (entry_at_integer ds z)
+
+-- the reply to a query
+abbrev pub IsAnswer : Query → Reply → Type 0
+IsAnswer (calls name args) r = Answer name args r
+IsAnswer (combines op a b) r = IsReply (operation op a b) r
+IsAnswer (negates a) r = IsReply (negation a) r
+IsAnswer (lists ds) r = IsReply (fits (answers (λ d. d ≡ list ds))) r
+IsAnswer (spans a b) r = IsReply (span_of a b) r
+IsAnswer (indexes a i) r = r ≡ item_of (as_list a) (as_integer i)

@@ -1,0 +1,9 @@
+//! Laws over the definitions, each the contract of a function that does nothing.
+
+ghost use Rattle.sg_eval.specs.Laws.{OneOutcome};
+
+/// A command, an operator or another form is answered, and a statement over variables ends, in at most one way: with
+/// one value or fault, one list of variables and one text.
+pub fn one_outcome()
+    ensures { OneOutcome }
+{}
