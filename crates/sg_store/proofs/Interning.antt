@@ -7,7 +7,11 @@ use Rattle.std.specs.List.{list_any, IsDistinct, AllByRecursion}
 use Rattle.std.proofs.lemmas.Slice.Eq.{bytes_eq-Decides}
 use Rattle.indexmap.specs.IndexSet.{insert_key}
 use Rattle.sg_store.specs.Fit.{IsStored}
-use Rattle.sg_store.specs.Held.{same_key, lists_of}
+use Rattle.std.specs.HashMap.{HashMap}
+use Rattle.std.specs.declared.rc.Rc.{Rc}
+use Rattle.std.specs.Global.{Global}
+use Rattle.std.proofs.Common.{ℤ}
+use Rattle.sg_store.specs.Held.{same_key, lists_of, AreTables, AreNumbers}
 use Rattle.sg_store.specs.Interned.{Keeps, IsInterned}
 use Rattle.sg_value.specs.Plain.{AreDistinct}
 use Rattle.sg_store.specs.declared.key.Key.{Key}
@@ -82,6 +86,9 @@ module _ (keys : List Key) (k : Key) where
   kept_added true i gens h = h
   kept_added false i gens h = subst (λ l. slice_get l i ≡ Some gens) (sym pushed) (front (lists_of keys) (k.list ∷ []) i gens h)
 
+  pub kept_inserted : Keeps (lists_of keys) (lists_of (insert_key same_key keys k))
+  kept_inserted = kept_added (list_any (same_key k) keys)
+
   only_added : (b : Bool) → (lists_of (added b) ≡ lists_of keys) ⊎ (lists_of (added b) ≡ lists_of keys ++ k.list ∷ [])
   only_added true = inl refl
   only_added false = inr pushed
@@ -100,3 +107,10 @@ module _ (keys : List Key) (k : Key) where
     where
       stands : slice_get (lists_of (insert_key same_key keys k)) id ≡ Some k.list
       stands = slice_get-map (λ (x : Key). x.list) (insert_key same_key keys k) id ∙ (ap (option_map (λ (x : Key). x.list)) at ∙ ap Some (sym (same_list k found_key same)))
+
+-- what is kept of ids stays theirs as lists come in
+pub tables_kept : {S : Type 0} (old new : List (List ℕ)) (tables : HashMap ℕ (Rc (List ℕ) Global) S) → Keeps old new → AreTables old tables → AreTables new tables
+tables_kept old new tables keeps are i t at = keeps i t.value (are i t at)
+
+pub numbers_kept : {S : Type 0} (old new : List (List ℕ)) (kept : HashMap ℕ (Rc (List ℤ) Global) S) → Keeps old new → AreNumbers old kept → AreNumbers new kept
+numbers_kept old new kept keeps are i t at = let known = are i t at in (known.0, keeps i known.0 known.1, known.2)

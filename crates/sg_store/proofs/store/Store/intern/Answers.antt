@@ -1,22 +1,33 @@
 use Rattle.sg_store.proofs.store.Store.intern.Goals as goal
 use Rattle.std.proofs.Common.{slice_get, ap, sym, ◌∙◌, subst}
 use Rattle.std.specs.List.{IsDistinct}
-use Rattle.sg_store.specs.Held.{lists_of, same_key}
+use Rattle.sg_store.specs.Held.{lists_of, same_key, AreTables, AreNumbers}
 use Rattle.sg_store.specs.Interned.{IsInterned}
 use Rattle.sg_store.specs.declared.key.Key.{Key}
-use Rattle.sg_store.proofs.Interning.{AllFit, fit_inserted, interned}
+use Rattle.sg_store.proofs.Interning.{AllFit, fit_inserted, kept_inserted, tables_kept, numbers_kept, interned}
 
 pub invariant_of-self : goal.invariant_of-self
-invariant_of-self c = record {
-  fit = subst AllFit (sym c.in_err-index.ensures.err) c.self.invariant.fit;
-  unique = c.insert_full.ensures.unique;
-}
+invariant_of-self c =
+    let same = sym c.in_err-index.ensures.err in
+    record {
+      fit = subst AllFit same c.self.invariant.fit;
+      unique = c.insert_full.ensures.unique;
+      tables = subst (λ l. AreTables (lists_of l) c.self.inside.tables) same c.self.invariant.tables;
+      numbers = subst (λ l. AreNumbers (lists_of l) c.self.inside.numbers) same c.self.invariant.numbers;
+    }
 
 pub invariant_of-self-2 : goal.invariant_of-self-2
-invariant_of-self-2 c = record {
-  fit = subst AllFit (sym c.in_ok-index.ensures.keys) (fit_inserted c.self.inside.keys.keys (record { list = c.args.gens }) c.self.invariant.fit c.requires);
-  unique = c.insert_full.ensures.unique;
-}
+invariant_of-self-2 c =
+    let old = c.self.inside.keys.keys in
+    let k : Key = record { list = c.args.gens } in
+    let same = sym c.in_ok-index.ensures.keys in
+    let keeps = kept_inserted old k in
+    record {
+      fit = subst AllFit same (fit_inserted old k c.self.invariant.fit c.requires);
+      unique = c.insert_full.ensures.unique;
+      tables = subst (λ l. AreTables (lists_of l) c.self.inside.tables) same (tables_kept (lists_of old) _ c.self.inside.tables keeps c.self.invariant.tables);
+      numbers = subst (λ l. AreNumbers (lists_of l) c.self.inside.numbers) same (numbers_kept (lists_of old) _ c.self.inside.numbers keeps c.self.invariant.numbers);
+    }
 
 pub returns-clause-interned : goal.returns-clause-interned
 returns-clause-interned c =
