@@ -3,3 +3,6 @@ pub mod Signed
 pub mod Remainders
 pub mod Entries
 pub mod Integers
+pub mod OneReply
+pub mod Semigroups
+pub mod Constructing

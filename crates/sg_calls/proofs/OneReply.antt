@@ -3,18 +3,22 @@ use Rattle.std.proofs.Common.{◌≡◌, ◌⊎◌, ◌↔◌, ◌<◌, ◌≤�
 use Rattle.std.specs.Prelude.{◌-ℤ◌, ◌<ℤ◌, ◌≤ℤ◌, unsigned_abs, Contains, All}
 use Rattle.std.specs.Int.{◌∣◌}
 use Rattle.std.proofs.lemmas.Int.{ints}
+use lib.Signed.{lt_z}
 use Rattle.sg_value.specs.Data.{Data, int, truth, text, list, fail, semigroup, Items}
 use Rattle.sg_calls.specs.Order.{Plain, Reply, Row, Case, unfit, fits, Checks, passed, check, FirstOf, value_checks, named_checks, Delivers, IsReply}
-use Rattle.sg_calls.specs.Kinds.{given, sole, as_list, as_integer, as_integers, answers, an_integer, whether}
-use Rattle.sg_calls.specs.Words.{IsGreatest, IsLeast, IsRemainder, IsEntry, entry_count}
+use Rattle.sg_calls.specs.Kinds.{given, sole, as_list, as_integer, as_integers, as_semigroup, spread, answers, an_integer, whether}
+use Rattle.sg_calls.specs.Words.{IsGreatest, IsLeast, IsRemainder, IsEntry, entry_count, naturals}
+use Rattle.sg_apery.proofs.OneListLemmas.{one-minimal_list}
 use Rattle.sg_calls.proofs.Remainders.{remainder_one}
-use Rattle.sg_calls.specs.Rows.{row, an_entry, length_of, maximum_of, minimum_of}
+use Rattle.sg_calls.specs.Rows.{row, an_entry, length_of, maximum_of, minimum_of, frobenius_number_of, semigroup_of}
+use Rattle.sg_defs.specs.Invariants.{IsFrobenius}
+use Rattle.sg_defs.specs.Membership.{IsMember, Generates}
 use Rattle.sg_calls.specs.Operations.{operation, calculation, of_integers, negation}
 use Rattle.sg_calls.specs.Commands.{checked, command_named}
 use Rattle.sg_calls.specs.Answers.{Answer, case_of, reply_unless}
 use Rattle.sg_calls.specs.declared.fault.Fault.{Fault}
 use Rattle.sg_calls.specs.declared.command.Command.{Command}
-use Rattle.sg_calls.specs.declared.command.Command.TheVariants.{Length, Maximum, Minimum}
+use Rattle.sg_calls.specs.declared.command.Command.TheVariants.{FrobeniusNumber, Length, Maximum, Minimum, NumericalSemigroup}
 use Rattle.sg_calls.specs.declared.operator.Operator.{Operator}
 use Rattle.sg_calls.specs.declared.operator.Operator.TheVariants.{Plus, Less, Times, Mod, Eq, Ne, Lt, Le, Gt, Ge, Member}
 
@@ -107,10 +111,37 @@ operators_one op a b = reply_one (operation op a b) (operation_one op a b)
 pub sign_one : (a : Plain) → One (IsReply (negation a))
 sign_one a = reply_one (negation a) (given_one (as_integer a) (λ x. fits (answers (λ d. d ≡ int (pos 0 -ℤ x)))) (λ x. is_one _))
 
+below_of : (f g : ℤ) → lt_z f g ≡ true → f <ℤ g
+below_of f g h = grind (arith, ints)
+
+same_of : (f g : ℤ) → lt_z f g ≡ false → lt_z g f ≡ false → f ≡ g
+same_of f g h k = grind (arith, ints)
+
+-- integers of which neither is below the other
+apart : (f g : ℤ) → (f <ℤ g → ⊥) → (g <ℤ f → ⊥) → f ≡ g
+apart f g up down = by (lt_z f g) (lt_z g f) refl refl
+  where
+    by : (a b : Bool) → lt_z f g ≡ a → lt_z g f ≡ b → f ≡ g
+    by true b h k = absurd (up (below_of f g h))
+    by false true h k = absurd (down (below_of g f k))
+    by false false h k = same_of f g h k
+
+frobenius_one : (G : List ℕ) → One (IsFrobenius G)
+frobenius_one G f g h k =
+    let up : f <ℤ g → ⊥ = λ below. k.outside (h.above g below) in
+    let down : g <ℤ f → ⊥ = λ below. h.outside (k.above f below) in
+    apart f g up down
+
+semigroup_one : (H : List ℕ) → One (λ (d : Plain). (G : List ℕ) × (d ≡ semigroup G) × Generates (IsMember H) G)
+semigroup_one H d e p q = p.1 ∙ (ap semigroup (one-minimal_list (IsMember H) p.0 q.0 p.2 q.2) ∙ sym q.1)
+
 row_one : (c : Command) (args : Items (List ℕ)) → OneValue (row c args)
 row_one Length args = given_one (sole args) length_of (λ a. given_one (as_list a) (λ ds. fits (answers (λ d. d ≡ int (pos (entry_count ds))))) (λ ds. is_one _))
 row_one Maximum args = given_one (sole args) maximum_of (λ a. given_one (as_integers a) (λ zs. an_entry (IsGreatest zs) zs) (λ zs. integer_one (IsGreatest zs) (greatest_one zs)))
 row_one Minimum args = given_one (sole args) minimum_of (λ a. given_one (as_integers a) (λ zs. an_entry (IsLeast zs) zs) (λ zs. integer_one (IsLeast zs) (least_one zs)))
+row_one FrobeniusNumber args =
+    given_one (sole args) frobenius_number_of (λ a. given_one (as_semigroup a) (λ G. fits (answers (an_integer (IsFrobenius G)))) (λ G. integer_one (IsFrobenius G) (frobenius_one G)))
+row_one NumericalSemigroup args = given_one (spread args) semigroup_of (λ zs. semigroup_one (naturals zs))
 
 case_one : (c : Option Command) (args : Items (List ℕ)) → OneValue (case_of c args)
 case_one None args = tt

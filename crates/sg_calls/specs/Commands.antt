@@ -6,7 +6,7 @@ use Rattle.sg_calls.specs.declared.fault.Fault.{Fault}
 use Rattle.sg_calls.specs.declared.fault.Fault.TheVariants.{UnknownName, WrongCount}
 use Rattle.sg_calls.specs.declared.command.Command.{Command}
 use Rattle.sg_calls.specs.declared.command.Named.{Named}
-use Rattle.sg_calls.specs.declared.command.Command.TheVariants.{Length, Maximum, Minimum}
+use Rattle.sg_calls.specs.declared.command.Command.TheVariants.{FrobeniusNumber, Length, Maximum, Minimum, NumericalSemigroup}
 
 -- what an entry of a table of names says
 abbrev pub entry_of : Named → List ℕ × Command
@@ -15,9 +15,11 @@ entry_of entry = (entry.name.now, entry.command)
 -- each name with its command
 abbrev pub names : List (List ℕ × Command)
 names =
-    (codes "Length", Length)
+    (codes "FrobeniusNumber", FrobeniusNumber)
+    ∷ (codes "Length", Length)
     ∷ (codes "Maximum", Maximum)
     ∷ (codes "Minimum", Minimum)
+    ∷ (codes "NumericalSemigroup", NumericalSemigroup)
     ∷ []
 
 -- the command of a name
@@ -26,9 +28,11 @@ command_named name = lookup (bytes_eq name) names
 
 -- whether a command takes so many arguments
 abbrev pub takes : Command → ℕ → Bool
+takes FrobeniusNumber n = nat_eq n 1
 takes Length n = nat_eq n 1
 takes Maximum n = nat_eq n 1
 takes Minimum n = nat_eq n 1
+takes NumericalSemigroup n = nat_le 1 n
 
 -- a command, if there is one, and so many arguments: the fault for which the call is refused
 abbrev pub checked_command : Option Command → ℕ → Option Fault

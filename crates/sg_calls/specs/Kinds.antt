@@ -60,10 +60,18 @@ as_integers (text bs) = None
 as_integers fail = None
 as_integers (semigroup h) = None
 
+-- the entries of a list that is the one argument
+abbrev pub entries_alone : {H : Type 0} → Option (Data H) → Option (Items H)
+entries_alone None = None
+entries_alone (Some d) = as_list d
+
+abbrev pub these_or : {H : Type 0} → Option (Items H) → Items H → Items H
+these_or None ds = ds
+these_or (Some es) ds = es
+
 -- one list of integers, or integers as the arguments
 abbrev pub spread : {H : Type 0} → Items H → Option (List ℤ)
-spread (item (list ds) none) = integers ds
-spread ds = integers ds
+spread ds = integers (these_or (entries_alone (sole ds)) ds)
 
 -- a row that refuses nothing by itself
 abbrev pub answers : (Plain → Type 0) → Row

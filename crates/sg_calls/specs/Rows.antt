@@ -6,8 +6,8 @@ use Rattle.sg_value.specs.Data.{Data, int, truth, text, list, fail, semigroup, I
 use Rattle.sg_calls.specs.Order.{Plain, Row, Case, unfit, fits}
 use Rattle.sg_calls.specs.Kinds.{given, sole, as_list, as_integer, as_integers, as_semigroup, spread, answers, an_integer, a_natural, whether, generates}
 use Rattle.sg_calls.specs.declared.command.Command.{Command}
-use Rattle.sg_calls.specs.declared.command.Command.TheVariants.{Length, Maximum, Minimum}
-use Rattle.sg_calls.specs.Words.{entry_count, total, IsGreatest, IsLeast, IsGcdOfAll, joined, naturals, HasLarge, Generate, IsRemainder, IsEntry}
+use Rattle.sg_calls.specs.declared.command.Command.TheVariants.{FrobeniusNumber, Length, Maximum, Minimum, NumericalSemigroup}
+use Rattle.sg_calls.specs.Words.{entry_count, total, IsGreatest, IsLeast, IsGcdOfAll, joined, naturals, AreSmall, Generate, IsRemainder, IsEntry}
 
 -- the number of entries
 abbrev pub length_of : Plain → Case
@@ -33,10 +33,12 @@ abbrev pub gcd_of : List ℤ → Case
 gcd_of zs = fits (record (answers (a_natural (IsGcdOfAll zs))) { bad = zs ≡ [] })
 
 abbrev pub semigroup_of : List ℤ → Case
-semigroup_of zs = fits (record (generates (IsMember (naturals zs))) { size = HasLarge zs; bad = ¬ Generate zs })
+semigroup_of zs = fits (record (generates (IsMember (naturals zs))) { size = ¬ AreSmall zs; bad = ¬ Generate zs })
 
 -- what the row of a command says of arguments
 abbrev pub row : Command → Items (List ℕ) → Case
 row Length args = given (sole args) length_of
 row Maximum args = given (sole args) maximum_of
 row Minimum args = given (sole args) minimum_of
+row NumericalSemigroup args = given (spread args) semigroup_of
+row FrobeniusNumber args = given (sole args) frobenius_number_of

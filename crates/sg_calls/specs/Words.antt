@@ -3,6 +3,7 @@ use Rattle.std.specs.Prelude.{◌≡◌, ◌⊎◌, ◌↔◌, ℕ, suc, ℤ, po
 use Rattle.std.specs.Option.{option_map}
 use Rattle.std.specs.Int.{◌∣◌}
 use Rattle.sg_defs.specs.Membership.{IsNumericalSemigroup}
+use Rattle.sg_apery.specs.declared.limits.TheConstants.{ENTRY_LIMIT}
 use Rattle.sg_value.specs.Data.{Data, int, truth, text, list, fail, semigroup, Items, none, item}
 
 -- how many entries there are
@@ -57,9 +58,9 @@ IsLeast zs z = Contains zs z × All (λ y. z ≤ℤ y) zs
 abbrev pub IsGcdOfAll : List ℤ → ℕ → Type 0
 IsGcdOfAll zs g = (d : ℕ) → (d ∣ g) ↔ EachOf zs (λ z. d ∣ unsigned_abs z)
 
--- an entry is 2^32 or more
-abbrev pub HasLarge : List ℤ → Type 0
-HasLarge zs = AnyOf zs (λ z. pos (2 ^ 32) ≤ℤ z)
+-- all entries are below the limit of generators
+abbrev pub AreSmall : List ℤ → Type 0
+AreSmall zs = All (λ z. z <ℤ pos ENTRY_LIMIT) zs
 
 -- the entries without their signs
 abbrev pub naturals : List ℤ → List ℕ
@@ -67,7 +68,7 @@ naturals zs = map unsigned_abs zs
 
 -- the entries are positive, and generate a numerical semigroup
 abbrev pub Generate : List ℤ → Type 0
-Generate zs = EachOf zs (λ z. pos 1 ≤ℤ z) × IsNumericalSemigroup (naturals zs)
+Generate zs = All (λ z. pos 1 ≤ℤ z) zs × IsNumericalSemigroup (naturals zs)
 
 -- r is the remainder of a by b: from 0 on, below b without its sign, and a multiple of b away from a
 pub record IsRemainder (a b r : ℤ) : Type 0 where

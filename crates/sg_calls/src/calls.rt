@@ -8,7 +8,9 @@ ghost use Rattle.sg_calls.specs.Rows.{row};
 ghost use Rattle.sg_calls.specs.Answers.{Replies, case_of};
 
 use crate::command::{Command, command_named};
+use crate::constructors::numerical_semigroup_of;
 use crate::fault::{CallFault, Fault};
+use crate::invariants::frobenius_number_of;
 use crate::lists::{length_of, maximum_of, minimum_of};
 use sg_store::Store;
 use sg_value::Value;
@@ -17,19 +19,21 @@ use std::alloc::Global;
 /// What the row of a command answers.
 fn perform(
     alloc: Global,
-    _store: &mut Store,
+    store: &mut Store,
     command: Command,
     args: &[Value],
 ) -> Result<Value, CallFault>
     requires count { takes command (length args.now) ≡ true }
-    requires known { AllKnownIn (slice_get _store.old) args.now }
-    ensures reply { Replies result _store.new (row command (plain_of_all (slice_get _store.old) args.now)) }
-    ensures keeps { Keeps _store.old _store.new }
+    requires known { AllKnownIn (slice_get store.old) args.now }
+    ensures reply { Replies result store.new (row command (plain_of_all (slice_get store.old) args.now)) }
+    ensures keeps { Keeps store.old store.new }
 {
     match command {
+        Command::FrobeniusNumber => frobenius_number_of(alloc, store, &args[0]),
         Command::Length => length_of(&args[0]),
         Command::Maximum => maximum_of(alloc, &args[0]),
         Command::Minimum => minimum_of(alloc, &args[0]),
+        Command::NumericalSemigroup => numerical_semigroup_of(alloc, store, args),
     }
 }
 

@@ -10,9 +10,11 @@ use crate::fault::Fault;
 /// A command.
 #[derive(Clone, Copy, PartialEq, Eq, Debug)]
 pub enum Command {
+    FrobeniusNumber,
     Length,
     Maximum,
     Minimum,
+    NumericalSemigroup,
 }
 
 /// A name and the command that it stands for.
@@ -22,7 +24,11 @@ struct Named {
 }
 
 /// The names of all commands.
-static NAMES: [Named; 3] = [
+static NAMES: [Named; 5] = [
+    Named {
+        name: b"FrobeniusNumber",
+        command: Command::FrobeniusNumber,
+    },
     Named {
         name: b"Length",
         command: Command::Length,
@@ -34,6 +40,10 @@ static NAMES: [Named; 3] = [
     Named {
         name: b"Minimum",
         command: Command::Minimum,
+    },
+    Named {
+        name: b"NumericalSemigroup",
+        command: Command::NumericalSemigroup,
     },
 ];
 
@@ -61,7 +71,10 @@ fn takes(command: Command, count: usize) -> bool
     ensures { result ≡ takes command count }
 {
     match command {
-        Command::Length | Command::Maximum | Command::Minimum => count == 1,
+        Command::FrobeniusNumber | Command::Length | Command::Maximum | Command::Minimum => {
+            count == 1
+        }
+        Command::NumericalSemigroup => count >= 1,
     }
 }
 

@@ -10,7 +10,9 @@
 
 mod calls;
 mod command;
+mod constructors;
 mod fault;
+mod invariants;
 mod kinds;
 mod lists;
 mod operations;

@@ -43,3 +43,15 @@ fn operators_on_integers_and_lists(rt: HostRuntime) -> Result<(), Fail> {
     assert!(rt; matches!(negate(&a), Ok(Value::Int(7))));
     Ok(())
 }
+
+#[test]
+fn the_frobenius_number_of_3_and_5(rt: HostRuntime) -> Result<(), Fail> {
+    let mut store = Store::new(rt.alloc());
+    let args = [Value::Int(5), Value::Int(3), Value::Int(8)];
+    let Ok(s) = answer(rt.alloc(), &mut store, b"NumericalSemigroup", &args) else {
+        return Ok(());
+    };
+    let number = answer(rt.alloc(), &mut store, b"FrobeniusNumber", &[s]);
+    assert!(rt; matches!(number, Ok(Value::Int(7))));
+    Ok(())
+}

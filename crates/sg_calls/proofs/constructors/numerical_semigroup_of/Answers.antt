@@ -1,0 +1,22 @@
+use Rattle.std.proofs.Common.{◌≡◌, Err, Some, None, refl, ap, sym, ◌∙◌, subst, slice_get}
+use Rattle.sg_value.specs.Plain.{contents_of_all, generators_at}
+use Rattle.sg_calls.specs.Order.{IsReply}
+use Rattle.sg_calls.specs.Kinds.{given}
+use Rattle.sg_calls.specs.Rows.{semigroup_of}
+use Rattle.sg_calls.specs.Answers.{Replies}
+use Rattle.sg_calls.specs.declared.fault.Fault.TheVariants.{WrongType}
+use Rattle.sg_calls.proofs.Constructing.{spread-plain}
+use Rattle.sg_calls.proofs.constructors.numerical_semigroup_of.Goals as goal
+
+pub returns-in_default-clause-reply : goal.returns-in_default-clause-reply
+returns-in_default-clause-reply c =
+    let names = slice_get c.args.store.now in
+    let seen = spread-plain (generators_at names) (contents_of_all c.args.args.now) ∙ (sym c.in_ok-zs.ensures ∙ c.in_default.is) in
+    subst (λ o. IsReply (given o semigroup_of) (Err WrongType)) (sym seen) refl
+
+pub returns-clause-reply : goal.returns-clause-reply
+returns-clause-reply c =
+    let names = slice_get c.args.store.now in
+    let seen = spread-plain (generators_at names) (contents_of_all c.args.args.now) ∙ (sym c.in_ok-zs.ensures ∙ c.in-Some.is) in
+    subst (λ o. Replies c.generated.result c.generated.new.store (given o semigroup_of)) (sym seen)
+    (subst (λ zs. Replies c.generated.result c.generated.new.store (semigroup_of zs)) c.as_slice.ensures c.generated.ensures.reply)
