@@ -1,6 +1,6 @@
 -- Semigroups that integers generate.
-use Rattle.std.proofs.Common.{◌≡◌, ◌⊎◌, ◌↔◌, ◌<◌, ◌≤◌, ◌+◌, ◌*◌, ◌≢◌, ℕ, zero, suc, ℤ, pos, negsuc, List, [], ◌∷◌, length, get_or, map, Option, Some, None, Result, Ok, Err, slice_get, unwrap_or, IsSome, is_some, inl, inr, refl, ap, sym, ◌∙◌, subst, arith, rules}
-use Rattle.std.specs.Prelude.{◌≤ℤ◌, ◌<ℤ◌, All, EachIndex, slice_index, unsigned_abs}
+use Rattle.std.proofs.Common.{◌≡◌, ◌⊎◌, ◌<◌, ◌≤◌, ◌+◌, ◌*◌, ℕ, zero, suc, ℤ, pos, negsuc, List, [], ◌∷◌, length, get_or, Option, Some, None, Ok, Err, slice_get, unwrap_or, is_some, inl, inr, refl, ap, sym, ◌∙◌, subst, arith, rules}
+use Rattle.std.specs.Prelude.{◌≤ℤ◌, ◌<ℤ◌, All, EachIndex, slice_index}
 use Rattle.std.specs.Option.{option_map}
 use Rattle.std.proofs.lemmas.Int.{ints}
 use Rattle.sg_defs.specs.Vectors.{value_of}
@@ -11,11 +11,11 @@ use Rattle.sg_apery.specs.Generators.{AreRefused}
 use Rattle.sg_apery.specs.declared.fault.TableFault.TheVariants as table
 use Rattle.sg_apery.specs.declared.limits.TheConstants.{ENTRY_LIMIT, MULTIPLICITY_LIMIT}
 use Rattle.sg_value.specs.Data.{Data, Items, none, item, data_map, items_map, semigroup, EachSemigroup}
-use Rattle.sg_value.specs.Plain.{Named, IsKnown, contents, contents_of_all, plain, generators_at}
+use Rattle.sg_value.specs.Plain.{IsKnown, contents, contents_of_all, plain, generators_at}
 use Rattle.sg_value.specs.declared.value.Value.{Value, the_lemmas as value_lemmas}
 use Rattle.sg_value.specs.declared.value.Value.TheVariants as value
-use Rattle.sg_calls.specs.Order.{Plain, Reply, fits, IsReply, Delivers, Row}
-use Rattle.sg_calls.specs.Kinds.{given, sole, as_list, entries_alone, these_or, spread, integers, answers, generates}
+use Rattle.sg_calls.specs.Order.{IsReply, Delivers, Row}
+use Rattle.sg_calls.specs.Kinds.{given, sole, entries_alone, these_or, spread, integers, generates}
 use Rattle.sg_calls.specs.Words.{AreSmall, naturals, Generate}
 use Rattle.sg_calls.specs.Rows.{semigroup_of}
 use Rattle.sg_calls.specs.Answers.{Replies}

@@ -1,7 +1,7 @@
 -- Lists of values from one entry on.
-use Rattle.std.proofs.Common.{◌≡◌, ◌+◌, ◌<◌, ◌≤◌, ◌↔◌, ℕ, List, [], ◌∷◌, length, get_or, drop, map, inl, inr, ◌⊎◌, refl, ap, sym, ◌∙◌, subst}
+use Rattle.std.proofs.Common.{◌≡◌, ◌+◌, ◌<◌, ◌≤◌, ◌↔◌, ℕ, List, length, get_or, drop, inl, inr, ◌⊎◌, ap, sym, ◌∙◌, subst}
 use Rattle.std.proofs.lemmas.List.{drop_more, drop_all}
-use Rattle.sg_value.specs.Data.{Data, Items, none, item, items_of, items_map, data_map}
+use Rattle.sg_value.specs.Data.{Data, item}
 use Rattle.sg_value.specs.Plain.{Named, contents, contents_of_all, plain, plain_of_all}
 use Rattle.sg_value.specs.declared.value.Value.{Value}
 use Rattle.sg_calls.specs.Words.{IsEntry}

@@ -1,11 +1,10 @@
 -- Rows have one value, and so one reply.
-use Rattle.std.proofs.Common.{◌≡◌, ◌⊎◌, ◌↔◌, ◌<◌, ◌≤◌, ◌+◌, ◌-◌, ◌*◌, ◌%◌, ℕ, zero, suc, ℤ, pos, negsuc, Bool, true, false, IsTrue, List, [], length, get_or, Option, Some, None, Result, Ok, Err, inl, inr, refl, ap, sym, ◌∙◌, subst, arith}
-use Rattle.std.specs.Prelude.{◌-ℤ◌, ◌<ℤ◌, ◌≤ℤ◌, unsigned_abs, Contains, All}
-use Rattle.std.specs.Int.{◌∣◌}
+use Rattle.std.proofs.Common.{◌≡◌, ◌↔◌, ℕ, ℤ, pos, Bool, true, false, IsTrue, List, Option, Some, None, Result, Ok, inl, inr, refl, ap, sym, ◌∙◌, subst, arith}
+use Rattle.std.specs.Prelude.{◌-ℤ◌, ◌<ℤ◌, ◌≤ℤ◌, Contains, All}
 use Rattle.std.proofs.lemmas.Int.{ints}
 use lib.Signed.{lt_z}
-use Rattle.sg_value.specs.Data.{Data, int, truth, text, list, fail, semigroup, Items}
-use Rattle.sg_calls.specs.Order.{Plain, Reply, Row, Case, unfit, fits, Checks, passed, check, FirstOf, value_checks, named_checks, Delivers, IsReply}
+use Rattle.sg_value.specs.Data.{Data, int, truth, semigroup, Items}
+use Rattle.sg_calls.specs.Order.{Plain, Case, unfit, fits, Checks, passed, check, FirstOf, value_checks, named_checks, Delivers, IsReply}
 use Rattle.sg_calls.specs.Kinds.{given, sole, as_list, as_integer, as_integers, as_semigroup, spread, answers, an_integer, whether}
 use Rattle.sg_calls.specs.Words.{IsGreatest, IsLeast, IsRemainder, IsEntry, entry_count, naturals}
 use Rattle.sg_apery.proofs.OneListLemmas.{one-minimal_list}

@@ -1,17 +1,16 @@
 -- Replies of rows.
-use Rattle.std.proofs.Common.{◌≡◌, ◌⊎◌, ◌↔◌, ◌<◌, ◌≤◌, ℕ, ℤ, Bool, true, false, not, IsTrue, List, Option, Some, None, Result, Ok, Err, slice_get, inl, inr, refl, ap, sym, ◌∙◌, subst, arith, rules}
-use Rattle.std.specs.Prelude.{FitsSigned, SomeIff}
+use Rattle.std.proofs.Common.{◌≡◌, ◌↔◌, ℕ, ℤ, Bool, true, false, not, IsTrue, List, Ok, Err, slice_get, inl, inr, refl, ap, sym, subst, arith, rules}
+use Rattle.std.specs.Prelude.{FitsSigned}
 use Rattle.std.specs.Int.{w64}
-use Rattle.sg_value.specs.Data.{Data, int, truth, text, list, fail, semigroup, Items, data_map, items_map, EachSemigroup, weight_of, depth_of}
-use Rattle.sg_value.specs.Plain.{contents, plain, AllKnown, generators_at, IsKnown}
+use Rattle.sg_value.specs.Data.{Data, int, truth, text, list, fail, semigroup, data_map, items_map, EachSemigroup}
+use Rattle.sg_value.specs.Plain.{contents, plain, generators_at, IsKnown}
 use Rattle.sg_value.specs.declared.value.Value.{Value, the_lemmas as value_lemmas}
 use Rattle.sg_value.specs.declared.value.Value.TheVariants as value
-use Rattle.sg_calls.specs.Order.{Plain, Reply, Row, Case, unfit, fits, FirstOf, InBits, value_checks, Delivers, IsReply}
-use Rattle.sg_calls.specs.Kinds.{as_integer, as_list, as_semigroup, answers, an_integer, whether, given}
+use Rattle.sg_calls.specs.Order.{Plain, Reply, Row, fits, Delivers, IsReply}
+use Rattle.sg_calls.specs.Kinds.{as_integer, as_list, as_semigroup, answers, whether}
 use Rattle.std.specs.Option.{option_map}
 use Rattle.sg_calls.specs.Answers.{Replies}
-use Rattle.sg_calls.specs.declared.fault.Fault.{Fault}
-use Rattle.sg_calls.specs.declared.fault.Fault.TheVariants.{WrongType, Overflow, BadArgument}
+use Rattle.sg_calls.specs.declared.fault.Fault.TheVariants.{Overflow, BadArgument}
 use Rattle.sg_calls.specs.declared.fault.CallFault.TheVariants.{Script}
 
 pub contents-Int : (z : ℤ) → contents (value.Int z) ≡ int z

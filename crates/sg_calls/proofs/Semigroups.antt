@@ -1,7 +1,7 @@
 -- Semigroups among values.
-use Rattle.std.proofs.Common.{◌≡◌, ℕ, List, [], Option, Some, None, IsSome, unwrap_or, refl, ap, sym, ◌∙◌, subst}
+use Rattle.std.proofs.Common.{◌≡◌, ℕ, List, [], Some, IsSome, unwrap_or, ap, ◌∙◌, subst}
 use Rattle.std.specs.Option.{option_map}
-use Rattle.sg_value.specs.Data.{Data, data_map, int, truth, text, list, fail, semigroup, EachSemigroup}
+use Rattle.sg_value.specs.Data.{Data, int, truth, text, list, fail, semigroup, EachSemigroup}
 use Rattle.sg_value.specs.Plain.{Named, IsKnown, AllKnown, contents, plain, generators_at}
 use Rattle.sg_value.specs.declared.value.Value.{Value}
 use Rattle.sg_calls.specs.Kinds.{as_semigroup}

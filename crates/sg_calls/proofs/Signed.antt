@@ -1,5 +1,5 @@
 -- Signed numbers, as calls are given them.
-use Rattle.std.proofs.Common.{◌≡◌, ℕ, ℤ, subst, sym}
+use Rattle.std.proofs.Common.{ℤ, subst}
 use Rattle.std.specs.Prelude.{FitsSigned}
 use Rattle.std.specs.Int.{w64}
 use mir.Val.{to_z, of_z}

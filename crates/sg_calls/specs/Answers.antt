@@ -3,7 +3,7 @@ use Rattle.std.specs.Prelude.{◌≡◌, ℕ, List, Option, Some, None, Result, 
 use Rattle.sg_value.specs.Data.{Data, Items}
 use Rattle.sg_value.specs.Plain.{plain, AllKnown}
 use Rattle.sg_value.specs.declared.value.Value.{Value}
-use Rattle.sg_calls.specs.Order.{Plain, Reply, Case, unfit, IsReply}
+use Rattle.sg_calls.specs.Order.{Reply, Case, unfit, IsReply}
 use Rattle.sg_calls.specs.Commands.{checked, command_named}
 use Rattle.sg_calls.specs.Rows.{row}
 use Rattle.sg_calls.specs.Words.{entry_count}

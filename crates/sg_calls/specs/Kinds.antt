@@ -1,10 +1,10 @@
 -- Rows by the kinds of their arguments, and by the kinds of their values.
-use Rattle.std.specs.Prelude.{◌≡◌, ◌⊎◌, ◌↔◌, ℕ, ℤ, pos, Bool, IsTrue, ◌<◌, ◌≤◌, ◌^◌, List, [], ◌∷◌, ◌++◌, length, slice_index, Option, Some, None}
+use Rattle.std.specs.Prelude.{◌≡◌, ◌↔◌, ℕ, ℤ, pos, Bool, IsTrue, List, [], ◌∷◌, Option, Some, None}
 use Rattle.std.specs.Option.{option_map}
 use Rattle.sg_defs.specs.Membership.{Generates}
 use Rattle.sg_apery.specs.Fit.{IsFit}
 use Rattle.sg_value.specs.Data.{Data, int, truth, text, list, fail, semigroup, Items, none, item}
-use Rattle.sg_calls.specs.Order.{Plain, Row, Case, unfit, fits}
+use Rattle.sg_calls.specs.Order.{Plain, Row, Case, unfit}
 
 abbrev pub as_integer : {H : Type 0} → Data H → Option ℤ
 as_integer (int z) = Some z

@@ -1,7 +1,7 @@
 -- The rows of the operators.
-use Rattle.std.specs.Prelude.{◌≡◌, ℕ, ℤ, pos, ◌+ℤ◌, ◌-ℤ◌, ◌*ℤ◌, ◌≤ℤ◌, ◌<ℤ◌, List, Option, Some, None}
-use Rattle.sg_value.specs.Data.{Data, int, truth, text, list, fail, semigroup, Items}
-use Rattle.sg_calls.specs.Order.{Plain, Row, Case, unfit, fits}
+use Rattle.std.specs.Prelude.{◌≡◌, ℤ, pos, ◌+ℤ◌, ◌-ℤ◌, ◌*ℤ◌, ◌≤ℤ◌, ◌<ℤ◌}
+use Rattle.sg_value.specs.Data.{int}
+use Rattle.sg_calls.specs.Order.{Plain, Case, unfit, fits}
 use Rattle.sg_calls.specs.Kinds.{given, as_list, as_integer, answers, an_integer, whether}
 use Rattle.sg_calls.specs.Words.{IsRemainder, IsEntry}
 use Rattle.sg_calls.specs.declared.operator.Operator.{Operator}

@@ -1,13 +1,13 @@
 -- The rows of the commands and of the operators.
-use Rattle.std.specs.Prelude.{◌≡◌, ◌⊎◌, ◌↔◌, ℕ, ℤ, pos, ◌+ℤ◌, ◌-ℤ◌, ◌*ℤ◌, ◌≤ℤ◌, ◌<ℤ◌, Bool, ◌<◌, ◌≤◌, ◌^◌, List, [], ◌∷◌, ◌++◌, length, slice_index, Option, Some, None}
-use Rattle.sg_defs.specs.Membership.{IsMember, IsNumericalSemigroup}
+use Rattle.std.specs.Prelude.{◌≡◌, ℕ, ℤ, pos, List, []}
+use Rattle.sg_defs.specs.Membership.{IsMember}
 use Rattle.sg_defs.specs.Invariants.{IsFrobenius}
-use Rattle.sg_value.specs.Data.{Data, int, truth, text, list, fail, semigroup, Items, none, item}
-use Rattle.sg_calls.specs.Order.{Plain, Row, Case, unfit, fits}
-use Rattle.sg_calls.specs.Kinds.{given, sole, as_list, as_integer, as_integers, as_semigroup, spread, answers, an_integer, a_natural, whether, generates}
+use Rattle.sg_value.specs.Data.{int, Items}
+use Rattle.sg_calls.specs.Order.{Plain, Case, fits}
+use Rattle.sg_calls.specs.Kinds.{given, sole, as_list, as_integers, as_semigroup, spread, answers, an_integer, a_natural, generates}
 use Rattle.sg_calls.specs.declared.command.Command.{Command}
 use Rattle.sg_calls.specs.declared.command.Command.TheVariants.{FrobeniusNumber, Length, Maximum, Minimum, NumericalSemigroup}
-use Rattle.sg_calls.specs.Words.{entry_count, total, IsGreatest, IsLeast, IsGcdOfAll, joined, naturals, AreSmall, Generate, IsRemainder, IsEntry}
+use Rattle.sg_calls.specs.Words.{entry_count, total, IsGreatest, IsLeast, IsGcdOfAll, naturals, AreSmall, Generate}
 
 -- the number of entries
 abbrev pub length_of : Plain → Case

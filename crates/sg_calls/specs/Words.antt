@@ -1,5 +1,5 @@
 -- The words of the rows on lists and integers.
-use Rattle.std.specs.Prelude.{◌≡◌, ◌⊎◌, ◌↔◌, ℕ, suc, ℤ, pos, negsuc, ◌+ℤ◌, ◌-ℤ◌, ◌≤ℤ◌, ◌<ℤ◌, ◌≤◌, ◌<◌, ◌^◌, List, [], ◌∷◌, length, map, All, Contains, Option, Some, None, ⊤, unsigned_abs}
+use Rattle.std.specs.Prelude.{◌≡◌, ◌⊎◌, ◌↔◌, ℕ, suc, ℤ, pos, ◌+ℤ◌, ◌-ℤ◌, ◌≤ℤ◌, ◌<ℤ◌, ◌*◌, List, [], ◌∷◌, map, All, Contains, Option, Some, None, ⊤, unsigned_abs}
 use Rattle.std.specs.Option.{option_map}
 use Rattle.std.specs.Int.{◌∣◌}
 use Rattle.sg_defs.specs.Membership.{IsNumericalSemigroup}
@@ -74,4 +74,4 @@ Generate zs = All (λ z. pos 1 ≤ℤ z) zs × IsNumericalSemigroup (naturals zs
 pub record IsRemainder (a b r : ℤ) : Type 0 where
   pub from : pos 0 ≤ℤ r
   pub below : r <ℤ pos (unsigned_abs b)
-  pub multiple : unsigned_abs b ∣ unsigned_abs (a -ℤ r)
+  pub multiple : (q : ℕ) × (unsigned_abs (a -ℤ r) ≡ unsigned_abs b * q)

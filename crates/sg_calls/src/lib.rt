@@ -14,6 +14,7 @@ mod constructors;
 mod fault;
 mod invariants;
 mod kinds;
+pub mod laws;
 mod lists;
 mod operations;
 mod operator;
@@ -23,6 +24,3 @@ pub use command::check_call;
 pub use fault::{CallFault, Fault};
 pub use operations::{combine, negate};
 pub use operator::Operator;
-
-#[cfg(test)]
-mod tests;

@@ -1,8 +1,8 @@
 -- A process ends in one way where each query has one answer.
-use Rattle.std.proofs.Common.{◌≡◌, ℕ, List, [], ◌++◌, Result, Ok, Err, refl, ap, sym, ◌∙◌, subst}
-use Rattle.std.specs.Prelude.{pos, ◌-ℤ◌}
+use Rattle.std.proofs.Common.{◌≡◌, ℕ, List, ◌++◌, Result, ap, sym, ◌∙◌, subst}
+use Rattle.std.specs.Prelude.{◌-ℤ◌}
 use Rattle.sg_value.specs.Data.{list}
-use Rattle.sg_calls.specs.Order.{Plain, Reply, IsReply, fits}
+use Rattle.sg_calls.specs.Order.{Reply, fits}
 use Rattle.sg_calls.specs.Kinds.{answers, as_integer, given}
 use Rattle.sg_calls.specs.declared.fault.Fault.{Fault}
 use Rattle.sg_calls.proofs.OneReply.{reply_one, operators_one, sign_one, commands_one, given_one, is_one}

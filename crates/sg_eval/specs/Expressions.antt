@@ -1,11 +1,10 @@
 -- What expressions do.
-use Rattle.std.specs.Prelude.{ℕ, zero, suc, ◌+◌, Bool, true, false, not, List, [], ◌∷◌, codes, pos, Option, Some, None, Result, Ok, Err, if◌then◌else◌}
+use Rattle.std.specs.Prelude.{ℕ, zero, suc, Bool, true, false, not, List, [], ◌∷◌, codes, pos, Option, Some, None, Ok, Err, if◌then◌else◌}
 use Rattle.std.specs.Map.{lookup}
 use Rattle.std.specs.Str.{bytes_eq}
 use Rattle.std.specs.Option.{option_map}
-use Rattle.sg_value.specs.Data.{Data, int, truth as a_truth, text, list, fail, semigroup, Items, none, item}
-use Rattle.sg_tree.specs.Tree.{Tree, number, quoted, truth, failing, variable, call, display, span, item as item_tree, minus, negation, chain, compare, Trees, no_trees, tree, Argument, plain, arrow, Arguments, no_arguments, argument, Links, no_links, link}
-use Rattle.sg_tree.specs.declared.expr.Op.{Op}
+use Rattle.sg_value.specs.Data.{int, truth as a_truth, text, list, fail, semigroup, Items, none, item}
+use Rattle.sg_tree.specs.Tree.{Tree, number, quoted, truth, failing, variable, call, display, span, item as item_tree, minus, negation, chain, compare, Trees, no_trees, tree, plain, arrow, Arguments, no_arguments, argument, Links, no_links, link}
 use Rattle.sg_tree.specs.declared.expr.Op.TheVariants.{Or, And, Plus, Less, Times, Mod}
 use Rattle.sg_tree.specs.declared.expr.Rel.{Rel}
 use Rattle.sg_tree.specs.declared.expr.Rel.TheVariants.{Eq, Ne, Lt, Le, Gt, Ge, Member}
@@ -18,7 +17,7 @@ use Rattle.sg_calls.specs.Kinds.{as_list}
 use Rattle.sg_calls.specs.Commands.{checked}
 use Rattle.sg_calls.specs.Words.{entry_count}
 use Rattle.sg_eval.specs.Queries.{Query, calls, combines, negates, lists, spans, indexes}
-use Rattle.sg_eval.specs.Process.{Process, gives, refuses, reads, asks, sets, writes, ◌>>=◌}
+use Rattle.sg_eval.specs.Process.{Process, gives, refuses, reads, asks, ◌>>=◌}
 use Rattle.sg_eval.specs.Vars.{Vars}
 
 abbrev pub known : Option Plain → Process Plain

@@ -1,7 +1,7 @@
 -- What statements do.
-use Rattle.std.specs.Prelude.{ℕ, Bool, true, false, List, [], ◌∷◌, ◌++◌, codes, Option, Some, None, if◌then◌else◌}
+use Rattle.std.specs.Prelude.{ℕ, Bool, true, false, List, [], ◌++◌, codes, Option, Some, None, if◌then◌else◌}
 use Rattle.std.specs.Str.{bytes_eq}
-use Rattle.sg_value.specs.Data.{Data, Items, none, item}
+use Rattle.sg_value.specs.Data.{Items, none, item}
 use Rattle.sg_value.specs.Text.{text_of}
 use Rattle.sg_tree.specs.Tree.{Tree, number, quoted, truth, failing, variable, call, display, span, minus, negation, chain, compare, item as item_tree, Arguments, Code, nothing, quit, assign, choose, each, perform, Arms, no_arms, arm, Block, skip, code}
 use Rattle.sg_calls.specs.declared.fault.Fault.TheVariants.{WrongType}

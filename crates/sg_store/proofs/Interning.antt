@@ -1,5 +1,5 @@
 -- Keys after one was inserted.
-use Rattle.std.proofs.Common.{◌≡◌, ℕ, zero, suc, Bool, true, false, List, [], ◌∷◌, ◌++◌, slice_get, Option, Some, None, ◌||◌, if◌then◌else◌, refl, ap, sym, ◌∙◌, subst, true≢false, inl, inr, ◌⊎◌, map}
+use Rattle.std.proofs.Common.{◌≡◌, ℕ, zero, suc, Bool, true, false, List, [], ◌∷◌, ◌++◌, slice_get, Some, ◌||◌, if◌then◌else◌, refl, ap, sym, ◌∙◌, subst, true≢false, inl, inr, ◌⊎◌}
 use Rattle.std.proofs.lemmas.List.{map-append}
 use Rattle.std.proofs.lemmas.Option.{slice_get-map}
 use Rattle.std.specs.Option.{option_map}

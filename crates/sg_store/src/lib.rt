@@ -13,6 +13,3 @@ mod key;
 mod store;
 
 pub use store::Store;
-
-#[cfg(test)]
-mod tests;

@@ -1,4 +1,4 @@
-use Rattle.std.proofs.Common.{◌≡◌, length, ap, arith}
+use Rattle.std.proofs.Common.{ap, arith}
 use Rattle.sg_calls.specs.Kinds.{entries_alone}
 use Rattle.sg_calls.proofs.Constructing.{sole_many}
 use Rattle.sg_calls.proofs.constructors.entries_alone.Goals as goal

@@ -1,7 +1,5 @@
-use Rattle.std.proofs.Common.{◌≡◌, List, ℕ, map, ap, sym, ◌∙◌, subst, slice_get, Some}
-use Rattle.std.specs.Prelude.{unsigned_abs}
+use Rattle.std.proofs.Common.{ap, ◌∙◌, subst, Some}
 use Rattle.sg_defs.specs.Membership.{IsMember, Generates, IsNumericalSemigroup}
-use Rattle.sg_apery.specs.Fit.{IsFit}
 use Rattle.sg_apery.specs.Generators.{AreRefused}
 use Rattle.sg_calls.specs.Words.{naturals}
 use Rattle.sg_calls.proofs.Constructing.{made, too_large}

@@ -1,4 +1,4 @@
-use Rattle.std.proofs.Common.{◌≡◌, Err, Some, None, refl, ap, sym, ◌∙◌, subst, slice_get}
+use Rattle.std.proofs.Common.{Err, refl, sym, ◌∙◌, subst, slice_get}
 use Rattle.sg_value.specs.Plain.{contents_of_all, generators_at}
 use Rattle.sg_calls.specs.Order.{IsReply}
 use Rattle.sg_calls.specs.Kinds.{given}

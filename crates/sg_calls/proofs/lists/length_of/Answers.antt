@@ -1,4 +1,4 @@
-use Rattle.std.proofs.Common.{◌≡◌, ℤ, pos, length, Ok, Some, ap, sym, ◌∙◌, subst, slice_get, rules, arith, refl}
+use Rattle.std.proofs.Common.{◌≡◌, ℤ, pos, length, Ok, ap, sym, ◌∙◌, subst, slice_get, rules, arith}
 use Rattle.std.specs.Prelude.{FitsSigned}
 use Rattle.std.specs.Int.{w64}
 use Rattle.std.specs.Option.{option_map}

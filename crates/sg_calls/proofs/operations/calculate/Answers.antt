@@ -1,4 +1,4 @@
-use Rattle.std.proofs.Common.{◌≡◌, ℤ, ◌+ℤ◌, ◌-ℤ◌, ◌*ℤ◌, Ok, sym, subst, arith, rules}
+use Rattle.std.proofs.Common.{◌+ℤ◌, ◌-ℤ◌, ◌*ℤ◌, Ok, sym, subst, rules}
 use Rattle.std.specs.Prelude.{FitsSigned, SomeIff, ◌<ℤ◌, ◌≤ℤ◌}
 use Rattle.std.specs.Int.{w64}
 use Rattle.sg_calls.specs.Operations.{calculation}

@@ -1,4 +1,4 @@
-use Rattle.std.proofs.Common.{◌≡◌, Ok, sym, subst, slice_get, rules}
+use Rattle.std.proofs.Common.{◌≡◌, Ok, sym, subst, slice_get}
 use Rattle.sg_value.specs.Plain.{plain}
 use Rattle.sg_calls.specs.Operations.{operation}
 use Rattle.sg_calls.specs.Answers.{Replies}

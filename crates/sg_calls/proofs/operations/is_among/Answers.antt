@@ -1,4 +1,4 @@
-use Rattle.std.proofs.Common.{◌≡◌, true, false, IsTrue, slice_get, ap, sym, ◌∙◌, subst, rules}
+use Rattle.std.proofs.Common.{◌≡◌, true, false, slice_get, rules}
 use Rattle.sg_value.specs.Plain.{plain}
 use Rattle.sg_value.proofs.Entries.{AllKnownIn-at}
 use Rattle.sg_calls.proofs.Entries.{entry_found, entry_passed, entry_absent}

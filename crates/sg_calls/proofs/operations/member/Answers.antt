@@ -1,6 +1,6 @@
-use Rattle.std.proofs.Common.{◌≡◌, List, ℕ, Ok, Some, ap, sym, ◌∙◌, subst, slice_get}
+use Rattle.std.proofs.Common.{Ok, ap, sym, ◌∙◌, subst, slice_get}
 use Rattle.std.specs.Option.{option_map}
-use Rattle.sg_value.specs.Data.{Items, items_map}
+use Rattle.sg_value.specs.Data.{items_map}
 use Rattle.sg_value.specs.Plain.{plain, plain_of_all, contents, generators_at}
 use Rattle.sg_calls.specs.Order.{fits}
 use Rattle.sg_calls.specs.Kinds.{given, answers, whether}

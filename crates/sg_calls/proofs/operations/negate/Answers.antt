@@ -1,8 +1,8 @@
-use Rattle.std.proofs.Common.{◌≡◌, pos, ◌-ℤ◌, Some, ap, sym, ◌∙◌, subst, slice_get, rules}
+use Rattle.std.proofs.Common.{◌≡◌, pos, ◌-ℤ◌, sym, ◌∙◌, subst, slice_get, rules}
 use Rattle.std.specs.Prelude.{FitsSigned, SomeIff}
 use Rattle.std.specs.Int.{w64}
 use Rattle.sg_value.specs.Data.{int}
-use Rattle.sg_value.specs.Plain.{contents, plain, generators_at}
+use Rattle.sg_value.specs.Plain.{contents, generators_at}
 use Rattle.sg_calls.specs.Order.{fits}
 use Rattle.sg_calls.specs.Kinds.{given, answers}
 use Rattle.sg_calls.specs.Answers.{Replies}

@@ -1,4 +1,4 @@
-use Rattle.std.proofs.Common.{◌≡◌, ℤ, pos, ap, sym, ◌∙◌, subst, rules, refl}
+use Rattle.std.proofs.Common.{◌≡◌, pos, ap, sym, ◌∙◌, subst, rules, refl}
 use Rattle.std.specs.Prelude.{FitsSigned}
 use Rattle.std.specs.Int.{w64, int_rem_euclid}
 use mir.Val.{to_z, of_z}

@@ -1,8 +1,7 @@
-use Rattle.std.proofs.Common.{◌≡◌, slice_get, ap, subst}
+use Rattle.std.proofs.Common.{slice_get, ap, subst}
 use Rattle.sg_value.specs.Plain.{AreDistinct, contents, generators_at}
 use Rattle.sg_value.specs.Data.{data_map}
 use Rattle.sg_value.proofs.OneStore.{data_map-same}
-use Rattle.sg_store.specs.Held.{lists_of}
 use Rattle.sg_store.proofs.Interning.{unique_injective}
 use Rattle.sg_store.proofs.store.Store.equal.Goals as goal
 

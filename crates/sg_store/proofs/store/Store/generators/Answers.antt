@@ -2,7 +2,6 @@ use Rattle.std.proofs.Common.{◌≡◌, slice_get, Some, ap, sym, ◌∙◌, su
 use Rattle.std.specs.Option.{option_map}
 use Rattle.std.proofs.lemmas.Option.{slice_get-map}
 use Rattle.sg_value.specs.Plain.{AreDistinct}
-use Rattle.sg_store.specs.Held.{lists_of}
 use Rattle.sg_store.specs.declared.key.Key.{Key}
 use Rattle.sg_store.proofs.Interning.{unique_injective}
 use Rattle.sg_store.proofs.store.Store.generators.Goals as goal
