@@ -84,5 +84,8 @@ fn lists_modulo_other_members(rt: HostRuntime) -> Result<(), Fail> {
     let table = Table::from_generators(rt.alloc(), &[3, 5, 7])?;
     let again = Table::of_minimal(rt.alloc(), table.generators())?;
     assert_eq!(rt; again.apery(), [0, 7, 5].as_slice());
+    assert!(rt; table.contains(5));
+    let five = table.apery_at(rt.alloc(), 5)?;
+    assert_eq!(rt; five.as_slice(), [0, 6, 7, 3, 9].as_slice());
     Ok(())
 }
