@@ -13,3 +13,6 @@ mod key;
 mod store;
 
 pub use store::Store;
+
+#[cfg(test)]
+mod tests;
