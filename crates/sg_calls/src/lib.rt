@@ -24,3 +24,6 @@ pub use command::check_call;
 pub use fault::{CallFault, Fault};
 pub use operations::{combine, negate};
 pub use operator::Operator;
+
+#[cfg(test)]
+mod tests;
