@@ -1,3 +1,10 @@
 pub mod CoverLemmas
 pub mod MultiplicityLemmas
 pub mod MedLemmas
+pub mod MarkLemmas
+pub mod FitLemmas
+pub mod GeneratorMarkLemmas
+pub mod StepLemmas
+pub mod ArfLemmas
+pub mod TestLemmas
+pub mod DifferenceLemmas
