@@ -10,14 +10,14 @@ use Rattle.sg_tree.specs.Tree.{Tree}
 use Rattle.sg_script.specs.declared.rank.Rank.TheVariants as rank
 use Rattle.sg_script.specs.Grammar.{times, Chain, chained, Operand, conjunction, negative, product, unary, Comparison, alone, compared, Item, an_item, Atom, a_number, a_string, a_true, a_false, a_fail, a_name, a_call, parenthesized, an_empty_list, a_list, a_range}
 
-abbrev opens_word : Word → ℕ
+abbrev pub opens_word : Word → ℕ
 opens_word word.True = 1
 opens_word word.False = 1
 opens_word word.Fail = 1
 opens_word word.Not = 3
 opens_word _ = 0
 
-abbrev opens_symbol : Symbol → ℕ
+abbrev pub opens_symbol : Symbol → ℕ
 opens_symbol symbol.OpenParenthesis = 1
 opens_symbol symbol.OpenBracket = 1
 opens_symbol symbol.Minus = 2

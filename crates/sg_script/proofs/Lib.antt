@@ -7,3 +7,4 @@ pub mod ArgumentLemmas
 pub mod BracketLemmas
 pub mod Weights
 pub mod ExitLemmas
+pub mod StatementLemmas

@@ -99,27 +99,38 @@ mutual
     an_arrow : {x : List ℕ} {ts us : List Token} {t : Tree} → Chain rank.Or ts t us → OneGiven (token.Name x ∷ token.Symbol symbol.Arrow ∷ ts) (arrow x t) us
     a_value : {ts us : List Token} {t : Tree} → Chain rank.Or ts t us → OneGiven ts (plain t) us
 
--- inner, block, and what follows the first arm of a choice
+-- inner and block
 mutual
   pub data Inner : List Token → Code → List Token → Type 0 where
     assigned : {x : List ℕ} {ts us : List Token} {t : Tree} → Chain rank.Or ts t (token.Symbol symbol.Semicolon ∷ us) → Inner (token.Name x ∷ token.Symbol symbol.Assign ∷ ts) (assign x t) us
-    chosen : {ts us vs ws : List Token} {t : Tree} {body : List Code} {others : List (Tree × Block)} {other : List Code} → Chain rank.Or ts t (token.Word word.Then ∷ us) → Body us body vs → Others vs others other (token.Symbol symbol.Semicolon ∷ ws) → Inner (token.Word word.If ∷ ts) (choose (arms ((t, block body) ∷ others)) (block other)) ws
+    chosen : {ts us vs ws : List Token} {a : Tree × Block} {others : List (Tree × Block)} {other : List Code} → Arm ts a us → Elifs us others vs → Otherwise vs other (token.Symbol symbol.Semicolon ∷ ws) → Inner (token.Word word.If ∷ ts) (choose (arms (a ∷ others)) (block other)) ws
     repeated : {x : List ℕ} {ts us vs : List Token} {t : Tree} {body : List Code} → Chain rank.Or ts t (token.Word word.Do ∷ us) → Body us body (token.Word word.Od ∷ token.Symbol symbol.Semicolon ∷ vs) → Inner (token.Word word.For ∷ token.Name x ∷ token.Word word.In ∷ ts) (each x t (block body)) vs
     performed : {ts us : List Token} {t : Tree} → Chain rank.Or ts t (token.Symbol symbol.Semicolon ∷ us) → Inner ts (perform t) us
 
+  -- expr "then" block
+  pub data Arm : List Token → (Tree × Block) → List Token → Type 0 where
+    an_arm : {ts us vs : List Token} {t : Tree} {body : List Code} → Chain rank.Or ts t (token.Word word.Then ∷ us) → Body us body vs → Arm ts (t, block body) vs
+
+  -- { "elif" expr "then" block }
+  pub data Elifs : List Token → List (Tree × Block) → List Token → Type 0 where
+    no_elif : {ts : List Token} → Elifs ts [] ts
+    one_elif : {ts us vs : List Token} {a : Tree × Block} {others : List (Tree × Block)} → Arm ts a us → Elifs us others vs → Elifs (token.Word word.Elif ∷ ts) (a ∷ others) vs
+
+  -- [ "else" block ] "fi"
+  pub data Otherwise : List Token → List Code → List Token → Type 0 where
+    no_else : {ts : List Token} → Otherwise (token.Word word.Fi ∷ ts) [] ts
+    an_else : {ts us : List Token} {other : List Code} → Body ts other (token.Word word.Fi ∷ us) → Otherwise (token.Word word.Else ∷ ts) other us
+
+  -- { inner | ";" }
   pub data Body : List Token → List Code → List Token → Type 0 where
     no_more : {ts : List Token} → Body ts [] ts
-    empty_one : {ts us : List Token} {cs : List Code} → Body ts cs us → Body (token.Symbol symbol.Semicolon ∷ ts) (nothing ∷ cs) us
-    inner_one : {ts us vs : List Token} {c : Code} {cs : List Code} → Inner ts c us → Body us cs vs → Body ts (c ∷ cs) vs
+    one_more : {ts us vs : List Token} {c : Code} {cs : List Code} → OneOf ts c us → Body us cs vs → Body ts (c ∷ cs) vs
 
-  -- { "elif" expr "then" block } [ "else" block ] "fi"
-  pub data Others : List Token → List (Tree × Block) → List Code → List Token → Type 0 where
-    no_else : {ts : List Token} → Others (token.Word word.Fi ∷ ts) [] [] ts
-    an_else : {ts us : List Token} {other : List Code} → Body ts other (token.Word word.Fi ∷ us) → Others (token.Word word.Else ∷ ts) [] other us
-    an_elif : {ts us vs ws : List Token} {t : Tree} {body : List Code} {others : List (Tree × Block)} {other : List Code} → Chain rank.Or ts t (token.Word word.Then ∷ us) → Body us body vs → Others vs others other ws → Others (token.Word word.Elif ∷ ts) ((t, block body) ∷ others) other ws
+  pub data OneOf : List Token → Code → List Token → Type 0 where
+    an_empty : {ts : List Token} → OneOf (token.Symbol symbol.Semicolon ∷ ts) nothing ts
+    an_inner : {ts us : List Token} {c : Code} → Inner ts c us → OneOf ts c us
 
 -- a whole statement
 pub data IsStatement : List Token → Code → Type 0 where
-  an_empty_one : IsStatement (token.Symbol symbol.Semicolon ∷ []) nothing
   the_last : IsStatement (token.Word word.Quit ∷ token.Symbol symbol.Semicolon ∷ []) quit
-  an_inner : {ts : List Token} {c : Code} → Inner ts c [] → IsStatement ts c
+  a_statement : {ts : List Token} {c : Code} → OneOf ts c [] → IsStatement ts c

@@ -2,3 +2,4 @@ pub mod Signs
 pub mod Grammar
 pub mod Literals
 pub mod Reading
+pub mod Bodies

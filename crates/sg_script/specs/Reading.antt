@@ -1,5 +1,5 @@
 -- What a call of the reader finds at the front of tokens.
-use Rattle.std.specs.Prelude.{◌≡◌, ℕ, ◌<◌, List, [], ◌∷◌, ◌++◌, length, Option, Some, None, Result, Ok, Err, ◌⊎◌}
+use Rattle.std.specs.Prelude.{◌≡◌, ℕ, ◌<◌, ◌≤◌, List, [], ◌∷◌, ◌++◌, length, Option, Some, None, Result, Ok, Err, ◌⊎◌}
 use denote.Ref.{Bor}
 use Rattle.sg_token.specs.declared.token.Token.{Token}
 use Rattle.sg_token.specs.declared.token.Token.TheVariants as token
@@ -41,6 +41,11 @@ Reads view R Stop ts (Err fault) = Misses R Stop ts fault
 abbrev pub Shortens : {X : Type 0} → List Token → Result (X × Bor (List Token)) TokenFault → Type 0
 Shortens ts (Ok found) = length found.1.now < length ts
 Shortens ts (Err fault) = Unit {0}
+
+-- what is left is no longer
+abbrev pub ShortensNot : {X : Type 0} → List Token → Result (X × Bor (List Token)) TokenFault → Type 0
+ShortensNot ts (Ok found) = length found.1.now ≤ length ts
+ShortensNot ts (Err fault) = Unit {0}
 
 -- the tokens begin with this one
 abbrev pub IsAfter : List Token → Token → Option (Bor (List Token)) → Type 0

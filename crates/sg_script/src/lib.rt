@@ -5,6 +5,8 @@ mod build;
 mod expression;
 mod rank;
 mod sign;
+mod statement;
 
 pub use expression::{chain, closed};
 pub use rank::Rank;
+pub use statement::one_statement;

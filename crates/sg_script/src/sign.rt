@@ -112,6 +112,18 @@ pub fn name_before(tokens: &[Token], symbol: Symbol) -> Option<(&Bytes, &[Token]
     Some((name, after_symbol(rest, symbol)?))
 }
 
+/// The name that the tokens begin with, where this word follows it, and what follows both.
+pub fn name_before_word(tokens: &[Token], word: Word) -> Option<(&Bytes, &[Token])>
+    ensures name { MatchOption result (NamesNot tokens.now (token.Word word)) (λ p. tokens.now ≡ token.Name p.0.now ∷ (token.Word word ∷ p.1.now)) }
+    ensures shorter { MatchOption result ⊤ (λ p. length p.1.now < length tokens.now) }
+{
+    let (first, rest) = tokens.split_first()?;
+    let Token::Name(name) = first else {
+        return None;
+    };
+    Some((name, after_word(rest, word)?))
+}
+
 /// How many times the tokens begin with `not`, and what follows that.
 pub fn count_not(tokens: &[Token]) -> (u64, &[Token])
     ensures counts { Counts tokens.now (token.Word Word.Not) result.0 result.1.now }
