@@ -58,7 +58,7 @@ name-alone {x = x} {k = k} {ts = ts} free =
     let conjunction = found-conjunction (found-chain negated (end-links (no-operator rank.And free))) in
     found-chain conjunction (end-links (no-operator rank.Or free))
 
-not-an-end : (ts : List Token) → EndsGiven (token.Symbol symbol.Arrow ∷ ts) → ⊥
+pub not-an-end : (ts : List Token) → EndsGiven (token.Symbol symbol.Arrow ∷ ts) → ⊥
 not-an-end ts e = ⊎_elim (λ c. cc) (λ c. cc) e
 
 -- behind a name and an arrow stands the body

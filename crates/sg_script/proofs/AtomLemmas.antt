@@ -30,7 +30,7 @@ not-closed {k = k} free f not = record { none = λ b vs d stop. let e = f.only b
 item-parts : {ts vs : List Token} {b : Tree} → Item ts b vs → (t : Tree) × (us : List Token) × (is : List Tree) × (b ≡ indexed t is) × Atom ts t us × Indices us is vs
 item-parts (an_item {us = us} {t = t} {is = is} a i) = (t, us, is, refl, a, i)
 
-atom-stops : {us vs : List Token} {is : List Tree} → Indices us is vs → StopsAt 6 vs → StopsAt 7 us
+pub atom-stops : {us vs : List Token} {is : List Tree} → Indices us is vs → StopsAt 6 vs → StopsAt 7 us
 atom-stops {us = us} no_index stop = stops-more 7 us (omega arith) stop
 atom-stops (one_index d i) stop = omega arith
 
@@ -174,7 +174,7 @@ no-call f = record { none = λ b vs d stop. let p = call-parts d stop in f.none 
 
 -- arguments
 
-ends-given : {us vs : List Token} {others : List Argument} → MoreGiven us others vs → EndsGiven us
+pub ends-given : {us vs : List Token} {others : List Argument} → MoreGiven us others vs → EndsGiven us
 ends-given last_given = inr refl
 ends-given (one_given a m) = inl refl
 
@@ -182,7 +182,7 @@ pub ends-stop : (us : List Token) → EndsGiven us → StopsAt 1 us
 ends-stop [] e = absurd e
 ends-stop (u ∷ us) e = ⊎_elim (λ c. subst (λ x. binding x < 1) (sym c) (omega arith)) (λ c. subst (λ x. binding x < 1) (sym c) (omega arith)) e
 
-no-given-here : {us vs : List Token} {a : Argument} → OneGiven (token.Symbol symbol.CloseParenthesis ∷ us) a vs → ⊥
+pub no-given-here : {us vs : List Token} {a : Argument} → OneGiven (token.Symbol symbol.CloseParenthesis ∷ us) a vs → ⊥
 no-given-here (a_value d) = let s = starts-expression d in omega (arith, s.0)
 
 none-only : {ts vs : List Token} {all : List Argument} → Given (token.Symbol symbol.CloseParenthesis ∷ ts) all vs → (all ≡ []) × (vs ≡ ts)

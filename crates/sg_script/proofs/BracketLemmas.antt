@@ -21,11 +21,11 @@ empty-only (a_range d e) = absurd (no-expression-here d)
 pub found-empty : {ts : List Token} → Found Bracketed Always (token.Symbol symbol.CloseBracket ∷ ts) (display no_trees) ts
 found-empty = record { is = an_empty_list; only = λ b vs d stop. empty-only d }
 
-entries-stop : {us vs : List Token} {es : List Tree} → Entries us es vs → StopsAt 1 us
+pub entries-stop : {us vs : List Token} {es : List Tree} → Entries us es vs → StopsAt 1 us
 entries-stop last_entry = omega arith
 entries-stop (one_entry d e) = omega arith
 
-no-entries-here : {us vs : List Token} {es : List Tree} → Entries (token.Symbol symbol.Dots ∷ us) es vs → ⊥
+pub no-entries-here : {us vs : List Token} {es : List Tree} → Entries (token.Symbol symbol.Dots ∷ us) es vs → ⊥
 no-entries-here d = elim d [ ]
 
 -- behind an expression and two dots stands the other bound

@@ -94,7 +94,7 @@ no-product f = record { none = λ b vs d stop. f.none b vs (product-part d) stop
 negative-parts : {ts vs : List Token} {b : Tree} → Operand rank.And ts b vs → (n : ℕ) × (us : List Token) × (t : Tree) × (ts ≡ times n (token.Word word.Not) us) × (b ≡ negated n t) × Comparison us t vs
 negative-parts (negative n {ts = us} {t = t} d) = (n, us, t, refl, refl, d)
 
-not-not : {us vs : List Token} {t : Tree} → Comparison us t vs → (ws : List Token) → us ≡ token.Word word.Not ∷ ws → ⊥
+pub not-not : {us vs : List Token} {t : Tree} → Comparison us t vs → (ws : List Token) → us ≡ token.Word word.Not ∷ ws → ⊥
 not-not d ws e = let s = subst (Starts 2) e (starts-comparison d) in omega (arith, s.1)
 
 pub found-negative : {ts us vs : List Token} {n : ℕ} {t : Tree} → Counts ts (token.Word word.Not) n us → Found Comparison (StopsAt 3) us t vs → Found (Operand rank.And) (StopsAt 3) ts (negated n t) vs
@@ -118,7 +118,7 @@ no-negative {n = n} c f = record {
 unary-parts : {ts vs : List Token} {b : Tree} → Operand rank.Product ts b vs → (n : ℕ) × (us : List Token) × (t : Tree) × (ts ≡ times n (token.Symbol symbol.Minus) us) × (b ≡ signed n t) × Item us t vs
 unary-parts (unary n {ts = us} {t = t} d) = (n, us, t, refl, refl, d)
 
-not-minus : {us vs : List Token} {t : Tree} → Item us t vs → (ws : List Token) → us ≡ token.Symbol symbol.Minus ∷ ws → ⊥
+pub not-minus : {us vs : List Token} {t : Tree} → Item us t vs → (ws : List Token) → us ≡ token.Symbol symbol.Minus ∷ ws → ⊥
 not-minus d ws e = let s = subst (Starts 1) e (starts-item d) in omega (arith, s.1)
 
 pub found-unary : {ts us vs : List Token} {n : ℕ} {t : Tree} → Counts ts (token.Symbol symbol.Minus) n us → Found Item (StopsAt 6) us t vs → Found (Operand rank.Product) (StopsAt 6) ts (signed n t) vs

@@ -8,3 +8,8 @@ pub mod BracketLemmas
 pub mod Weights
 pub mod ExitLemmas
 pub mod StatementLemmas
+pub mod UniqueLemmas
+pub mod UniqueStatementLemmas
+pub mod WellFormedLemmas
+pub mod OutcomeLemmas
+pub mod ReaderLemmas

@@ -37,7 +37,7 @@ inner-goes-on (chosen a e o) = refl
 inner-goes-on (repeated d b) = refl
 inner-goes-on {ts = ts} (performed d) = expression-goes-on ts (starts-expression d)
 
-one-goes-on : {ts us : List Token} {c : Code} → OneOf ts c us → ends_body ts ≡ false
+pub one-goes-on : {ts us : List Token} {c : Code} → OneOf ts c us → ends_body ts ≡ false
 one-goes-on an_empty = refl
 one-goes-on (an_inner d) = inner-goes-on d
 
@@ -159,11 +159,11 @@ no-arm-body f g = record {
       g.none p.2 ws (subst (λ x. Body x p.2 ws) e.1 p.5) stop;
 }
 
-arm-ends : {us vs : List Token} {others : List (Tree × Block)} → Elifs us others vs → EndsChoice vs → EndsBody us
+pub arm-ends : {us vs : List Token} {others : List (Tree × Block)} → Elifs us others vs → EndsChoice vs → EndsBody us
 arm-ends no_elif stop = stop.0
 arm-ends (one_elif a e) stop = refl
 
-otherwise-ends : {vs ws : List Token} {other : List Code} → Otherwise vs other ws → EndsChoice vs
+pub otherwise-ends : {vs ws : List Token} {other : List Code} → Otherwise vs other ws → EndsChoice vs
 otherwise-ends no_else = (refl, λ us e. cc)
 otherwise-ends (an_else b) = (refl, λ us e. cc)
 

@@ -17,7 +17,11 @@ use std::alloc::Global;
 
 /// The chain of this rank that the tokens begin with, and what follows it.
 #[cycle(expressions)]
-pub fn chain(alloc: Global, rank: Rank, tokens: &[Token]) -> Result<(Expr, &[Token]), TokenFault>
+pub(crate) fn chain(
+    alloc: Global,
+    rank: Rank,
+    tokens: &[Token],
+) -> Result<(Expr, &[Token]), TokenFault>
     ensures reads { Reads tree_of (Chain rank) (StopsAt (level rank)) tokens.now result }
     ensures shorter { Shortens tokens.now result }
 {

@@ -1,12 +1,21 @@
-//! Expressions of the script language over tokens: the trees that the grammar gives.
+//! The tree of a statement's text: tokens, the depth of their nesting, and the grammar over them.
+//!
+//! Contracts see a statement as the plain tree of `sg_tree`. The layer above uses one contract: `parse` answers the one
+//! outcome that the text is read as (`IsReadAs`): a tree, `Depth` or `Syntax`, in that order of refusals: no tokens, too
+//! deep, no statement. The grammar (`Grammar`) relates tokens and trees; it knows no meaning. Each tree is well formed.
 #![tactic(auto)]
 
 mod build;
+mod depth;
 mod expression;
+mod fault;
+pub mod laws;
 mod rank;
+mod reader;
 mod sign;
 mod statement;
 
-pub use expression::{chain, closed};
-pub use rank::Rank;
-pub use statement::one_statement;
+pub use fault::ParseFault;
+pub use reader::parse;
+pub use sg_cut::{Piece, cut};
+pub use sg_tree::{Arg, Args, Arms, Block, Expr, Exprs, Links, Op, Rel, Stmt};

@@ -3,12 +3,7 @@ use Rattle.sg_token.specs.declared.symbol.Symbol.TheVariants as symbol
 use Rattle.sg_token.specs.declared.token.Token.TheVariants as token
 use Rattle.sg_token.specs.declared.word.Word.TheVariants as word
 use Rattle.sg_script.specs.Grammar.{times}
-use Rattle.sg_script.proofs.ArgumentLemmas.{found-value}
-use Rattle.sg_script.proofs.BracketLemmas.{found-listed}
-use Rattle.sg_script.proofs.ExitLemmas.{reads-exit}
-use Rattle.sg_script.proofs.OnwardLemmas.{onward-begin}
 use Rattle.sg_script.proofs.SignLemmas.{times-more}
-use Rattle.sg_script.proofs.StatementLemmas.{found-repetition}
 use Rattle.sg_script.proofs.sign.count_not.Goals as goal
 
 pub loop-after-preserved : goal.loop-after-preserved

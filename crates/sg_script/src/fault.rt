@@ -1,0 +1,27 @@
+//! Why a text gives no tree.
+
+use sg_token::TokenFault;
+use std::alloc::AllocError;
+
+/// Why a text gives no tree.
+#[derive(Clone, Copy, Debug, PartialEq, Eq)]
+pub enum ParseFault {
+    /// The text does not fall into tokens, or its tokens are no statement.
+    Syntax,
+    /// More than 64 brackets and blocks are open at some token.
+    Depth,
+    Memory(AllocError),
+}
+
+impl From<TokenFault> for ParseFault {
+    ghost use Rattle.sg_script.specs.Faults.{IsSameFault};
+
+    ghost from_gives = { λ cause fault. IsSameFault cause fault };
+
+    fn from(cause: TokenFault) -> ParseFault {
+        match cause {
+            TokenFault::Syntax => ParseFault::Syntax,
+            TokenFault::Memory(cause) => ParseFault::Memory(cause),
+        }
+    }
+}
