@@ -22,7 +22,6 @@ use Rattle.sg_defs.specs.Decomposition.{IsInCover}
 use Rattle.sg_defs.proofs.MembershipLemmas.{member-zero, member-add, member-times}
 use Rattle.sg_invar.proofs.MultiplicityLemmas.{multiplicity-member}
 use Rattle.sg_invar.proofs.PseudoFrobeniusLemmas.{integer_member-add}
-use Rattle.sg_irred.proofs.SymmetryLemmas.{integer-add}
 
 -- past half of h, and h less it is no member
 pub record IsNew (G : List ℕ) (h : ℤ) (x : ℕ) : Type 0 where
@@ -30,7 +29,7 @@ pub record IsNew (G : List ℕ) (h : ℤ) (x : ℕ) : Type 0 where
   pub outside : IsIntegerMember G (h -ℤ pos x) → ⊥
 
 -- no integer below 0 is a member
-below-zero : (G : List ℕ) (x : ℤ) → x <ℤ pos 0 → IsIntegerMember G x → ⊥
+pub below-zero : (G : List ℕ) (x : ℤ) → x <ℤ pos 0 → IsIntegerMember G x → ⊥
 below-zero G (pos n) l p = omega (arith, ints, l)
 below-zero G (negsuc n) l p = p
 

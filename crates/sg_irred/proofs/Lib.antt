@@ -5,3 +5,8 @@ pub mod SymmetryLemmas
 pub mod IrreducibleLemmas
 pub mod TestLemmas
 pub mod CoverLemmas
+pub mod ChoiceLemmas
+pub mod PlaceLemmas
+pub mod DecidedLemmas
+pub mod CoverIrreducibleLemmas
+pub mod IrredundantLemmas

@@ -29,7 +29,7 @@ module _ (G : List ℕ) (h : IsFrobenius G (negsuc 0)) where
   }
   mirrored (negsuc a) = record { one = inr (h.above (negsuc 0 -ℤ negsuc a) (omega (arith, ints))); apart = λ p q. p }
 
-  naturals-symmetric : IsSymmetric G
+  pub naturals-symmetric : IsSymmetric G
   naturals-symmetric = record { frobenius = negsuc 0; is_frobenius = h; mirrored = mirrored }
 
   -- -1 is odd

@@ -1,6 +1,7 @@
 -- The least numbers of a cover in their residue classes.
-use Rattle.std.specs.Prelude.{◌≡◌, ℕ, ℤ, ◌+◌, ◌%◌, ◌<◌, ◌≤◌, ◌*◌, List, length, slice_index}
+use Rattle.std.specs.Prelude.{◌≡◌, ℕ, ℤ, pos, ◌≤ℤ◌, slice_index_or, ◌+◌, ◌%◌, ◌*◌, ◌<◌, List, length, slice_index}
 use Rattle.sg_defs.specs.Decomposition.{IsInCover}
+use Rattle.sg_apery.specs.declared.limits.TheConstants.{ENTRY_LIMIT, MULTIPLICITY_LIMIT}
 
 -- n less the multiplicity lies in the cover of h
 abbrev pub HasLesser : List ℕ → ℤ → ℕ → Type 0
@@ -16,3 +17,7 @@ pub record IsLeastInCover (G : List ℕ) (h : ℤ) (n w : ℕ) : Type 0 where
 pub record IsCoverList (G : List ℕ) (h : ℤ) (n : ℕ) (l : List ℕ) : Type 0 where
   pub entries : length l ≡ n
   pub each : (i : ℕ) → i < n → IsLeastInCover G h i (slice_index l i)
+
+-- each entry is a natural, and at most the greatest entry of an Apery list
+abbrev pub AreNatural : List ℤ → Type 0
+AreNatural xs = (k : ℕ) → k < length xs → (pos 0 ≤ℤ slice_index_or xs k (pos 0)) × (slice_index_or xs k (pos 0) ≤ℤ pos (MULTIPLICITY_LIMIT * ENTRY_LIMIT))

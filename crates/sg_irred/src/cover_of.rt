@@ -11,7 +11,7 @@ use sg_nat::Nats;
 use std::alloc::{AllocError, Global};
 
 /// Whether a number lies in the cover of `h`: it is a member, or it is past half of `h` while `h` less it is none.
-fn is_in_cover(table: &Table, h: i64, x: u64) -> bool
+pub(crate) fn is_in_cover(table: &Table, h: i64, x: u64) -> bool
     requires natural { pos 0 ≤ℤ h }
     requires high { h ≤ℤ pos (MULTIPLICITY_LIMIT * ENTRY_LIMIT) }
     requires small { x ≤ MULTIPLICITY_LIMIT * ENTRY_LIMIT }

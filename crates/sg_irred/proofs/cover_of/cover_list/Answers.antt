@@ -1,4 +1,4 @@
-use Rattle.std.proofs.Common.{◌≡◌, arith, to_z, of_z, w64}
+use Rattle.std.proofs.Common.{arith, to_z, of_z, w64}
 use Rattle.sg_irred.proofs.CoverLemmas.{least-class, cover_list-push}
 use Rattle.sg_irred.proofs.cover_of.cover_list.Goals as goal
 
