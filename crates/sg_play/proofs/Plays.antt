@@ -1,0 +1,109 @@
+-- Plays: one outcome, and what more bytes do to it.
+use Rattle.std.proofs.Common.{◌≡◌, ℕ, ◌+◌, ◌≤◌, List, [], ◌++◌, length, take, drop, Bool, false, sym, ap, subst, ◌∙◌, append_assoc}
+use Rattle.std.specs.Prelude.{IsTrue}
+use Rattle.std.proofs.lemmas.List.{take-append-le}
+use Rattle.sg_cut.specs.Cut.{Cut}
+use Rattle.sg_cut.specs.Lines.{count_of_line_feeds, line_of}
+use Rattle.sg_cut.specs.declared.outcome.Piece.{Piece}
+use Rattle.sg_cut.specs.declared.outcome.Piece.TheVariants.{Statement, TooLong, Unfinished, End, Waiting}
+use Rattle.sg_cut.proofs.Outcomes.{same_outcome, statement-append, too_long-append, text-append, rest-append}
+use Rattle.sg_eval.specs.Vars.{Vars}
+use Rattle.sg_calls.specs.declared.fault.Fault.TheVariants as fault
+use Rattle.sg_play.specs.Record.{Played, refused, waiting, marked, out, after_text, IsFrontOf}
+use Rattle.sg_play.specs.Play.{Turn, stops, goes, ends_at, Takes, PlaysFrom, last, next}
+use Rattle.sg_play.proofs.Turns.{takes-one, takes-same, waits-empty, waiting-waits}
+
+false-holds : IsTrue false → ⊥
+false-holds h = cc
+
+line-append : (bytes more : List ℕ) (place : ℕ) → place ≤ length bytes → line_of (bytes ++ more) place ≡ line_of bytes place
+line-append bytes more place l = ap (λ xs. 1 + count_of_line_feeds xs) (take-append-le place bytes more l)
+
+-- the rest of a play, after the same statement with the same variables
+same-rest : (whole : Bool) (bytes : List ℕ) (passed feeds : ℕ) (end end' : ℕ) (vars vars' : Vars) (p : Played) → end' ≡ end → vars' ≡ vars →
+    PlaysFrom whole (drop end' bytes) (passed + end') (feeds + count_of_line_feeds (take end' bytes)) vars' p →
+    PlaysFrom whole (drop end bytes) (passed + end) (feeds + count_of_line_feeds (take end bytes)) vars p
+same-rest whole bytes passed feeds end end' vars vars' p e v d =
+    subst (λ w. PlaysFrom whole (drop end bytes) (passed + end) (feeds + count_of_line_feeds (take end bytes)) w p) v
+    (subst (λ n. PlaysFrom whole (drop n bytes) (passed + n) (feeds + count_of_line_feeds (take n bytes)) vars' p) e d)
+
+-- a turn of the same bytes is the same turn
+same-turn : (whole : Bool) (bytes : List ℕ) (passed feeds : ℕ) (vars : Vars) (a b : Piece) (t u : Turn) → Cut bytes whole a → Cut bytes whole b →
+    Takes a bytes passed feeds vars t → Takes b bytes passed feeds vars u → t ≡ u
+same-turn whole bytes passed feeds vars a b t u c d p q =
+    takes-one a bytes passed feeds vars t u p (subst (λ x. Takes x bytes passed feeds vars u) (same_outcome bytes whole b a d c) q)
+
+pub one-play : {whole : Bool} {bytes : List ℕ} {passed feeds : ℕ} {vars : Vars} {p q : Played} → PlaysFrom whole bytes passed feeds vars p → PlaysFrom whole bytes passed feeds vars q → p ≡ q
+one-play {whole} {bytes} {passed} {feeds} {vars} (last a c h) (last b d k) =
+    let e = same-turn whole bytes passed feeds vars a b _ _ c d h k in cc
+one-play {whole} {bytes} {passed} {feeds} {vars} (last a c h) (next begin end text vars' d k rest) =
+    let e = same-turn whole bytes passed feeds vars a (Statement begin end) _ _ c d h k in cc
+one-play {whole} {bytes} {passed} {feeds} {vars} (next begin end text vars' c h rest) (last b d k) =
+    let e = same-turn whole bytes passed feeds vars (Statement begin end) b _ _ c d h k in cc
+one-play {whole} {bytes} {passed} {feeds} {vars} (next {p = tail} begin end text vars' c h rest) (next {p = tail'} begin' end' text' vars'' d k rest') =
+    let piece = same_outcome bytes whole (Statement begin end) (Statement begin' end') c d in
+    let turn = same-turn whole bytes passed feeds vars (Statement begin end) (Statement begin' end') (goes text vars') (goes text' vars'') c d h k in
+    let stop : end' ≡ end = cc in
+    let known : vars'' ≡ vars' = cc in
+    let shown : text ≡ text' = cc in
+    let others = one-play rest (same-rest whole bytes passed feeds end end' vars' vars'' tail' stop known rest') in
+    ap (λ b. after_text b tail) shown ∙ ap (after_text text') others
+
+-- a statement comes to the same over more bytes
+statement-more : (begin end : ℕ) (bytes more : List ℕ) (passed feeds : ℕ) (vars : Vars) (t : Turn) → Cut bytes false (Statement begin end) →
+    Takes (Statement begin end) bytes passed feeds vars t → Takes (Statement begin end) (bytes ++ more) passed feeds vars t
+statement-more begin end bytes more passed feeds vars t c h =
+    takes-same begin end bytes (bytes ++ more) passed feeds vars t (text-append bytes more begin end c) (line-append bytes more begin c.begins.within) h
+
+-- the rest of a play over more bytes
+rest-more : (whole : Bool) (begin end : ℕ) (bytes more : List ℕ) (passed feeds : ℕ) (vars : Vars) (p : Played) → Cut bytes false (Statement begin end) →
+    PlaysFrom whole (drop end bytes ++ more) (passed + end) (feeds + count_of_line_feeds (take end bytes)) vars p →
+    PlaysFrom whole (drop end (bytes ++ more)) (passed + end) (feeds + count_of_line_feeds (take end (bytes ++ more))) vars p
+rest-more whole begin end bytes more passed feeds vars p c d =
+    subst (λ xs. PlaysFrom whole xs (passed + end) (feeds + count_of_line_feeds (take end (bytes ++ more))) vars p) (sym (rest-append bytes more begin end c))
+    (subst (λ xs. PlaysFrom whole (drop end bytes ++ more) (passed + end) (feeds + count_of_line_feeds xs) vars p) (sym (take-append-le end bytes more c.within)) d)
+
+rest-less : (whole : Bool) (begin end : ℕ) (bytes more : List ℕ) (passed feeds : ℕ) (vars : Vars) (p : Played) → Cut bytes false (Statement begin end) →
+    PlaysFrom whole (drop end (bytes ++ more)) (passed + end) (feeds + count_of_line_feeds (take end (bytes ++ more))) vars p →
+    PlaysFrom whole (drop end bytes ++ more) (passed + end) (feeds + count_of_line_feeds (take end bytes)) vars p
+rest-less whole begin end bytes more passed feeds vars p c d =
+    subst (λ xs. PlaysFrom whole (drop end bytes ++ more) (passed + end) (feeds + count_of_line_feeds xs) vars p) (take-append-le end bytes more c.within)
+    (subst (λ xs. PlaysFrom whole xs (passed + end) (feeds + count_of_line_feeds (take end (bytes ++ more))) vars p) (rest-append bytes more begin end c) d)
+
+-- a play that has ended stays so
+pub ended-stays : {bytes : List ℕ} {passed feeds : ℕ} {vars : Vars} {p : Played} → PlaysFrom false bytes passed feeds vars p → (more : List ℕ) (whole : Bool) → (p.ending ≡ waiting → ⊥) →
+    PlaysFrom whole (bytes ++ more) passed feeds vars p
+ended-stays {bytes} {passed} {feeds} {vars} {p} (last (Statement begin end) c h) more whole goes_on =
+    last (Statement begin end) (statement-append bytes more begin end c) (statement-more begin end bytes more passed feeds vars (stops p) c h)
+ended-stays {bytes} {passed} {feeds} {vars} {p} (last (TooLong begin) c h) more whole goes_on =
+    last (TooLong begin) (too_long-append bytes more begin c)
+    (h ∙ ap (λ l. ends_at [] (refused fault.TooLong (feeds + l)) (passed + begin)) (sym (line-append bytes more begin c.begins.within)))
+ended-stays (last (Unfinished begin) c h) more whole goes_on = absurd (false-holds c.complete)
+ended-stays (last End c h) more whole goes_on = absurd (false-holds c.complete)
+ended-stays {bytes} {passed} {feeds} {vars} {p} (last Waiting c h) more whole goes_on = absurd (goes_on (waiting-waits bytes passed feeds vars p h))
+ended-stays {bytes} {passed} {feeds} {vars} (next {p = tail} begin end text vars' c h rest) more whole goes_on =
+    next begin end text vars' (statement-append bytes more begin end c) (statement-more begin end bytes more passed feeds vars (goes text vars') c h)
+    (rest-more whole begin end bytes more passed feeds vars' tail c (ended-stays rest more whole goes_on))
+
+-- a play that waits has written a front of what a longer one writes
+pub waits-front : {bytes : List ℕ} {passed feeds : ℕ} {vars : Vars} {p q : Played} (more : List ℕ) (whole : Bool) → PlaysFrom false bytes passed feeds vars p →
+    PlaysFrom whole (bytes ++ more) passed feeds vars q → p.ending ≡ waiting → IsFrontOf p.written q.written
+waits-front {bytes} {passed} {feeds} {vars} {p} {q} more whole (last piece c h) d w = (q.written, ap (λ xs. xs ++ q.written) (sym (waits-empty piece bytes passed feeds vars p h w)))
+waits-front {bytes} {passed} {feeds} {vars} more whole (next begin end text vars' c h rest) (last b d k) w =
+    let e = same-turn whole (bytes ++ more) passed feeds vars (Statement begin end) b _ _ (statement-append bytes more begin end c) d
+    (statement-more begin end bytes more passed feeds vars (goes text vars') c h) k in
+    absurd cc
+waits-front {bytes} {passed} {feeds} {vars} more whole (next {p = tail} begin end text vars' c h rest) (next {p = tail'} begin' end' text' vars'' d k rest') w =
+    let longer = bytes ++ more in
+    let c' = statement-append bytes more begin end c in
+    let piece = same_outcome longer whole (Statement begin end) (Statement begin' end') c' d in
+    let turn = same-turn whole longer passed feeds vars (Statement begin end) (Statement begin' end') (goes text vars') (goes text' vars'') c' d
+    (statement-more begin end bytes more passed feeds vars (goes text vars') c h) k in
+    let stop : end' ≡ end = cc in
+    let known : vars'' ≡ vars' = cc in
+    let shown : text' ≡ text = cc in
+    let others = same-rest whole longer passed feeds end end' vars' vars'' tail' stop known rest' in
+    let front = waits-front more whole rest (rest-less whole begin end bytes more passed feeds vars' tail' c others) w in (
+      front.0,
+      ap (λ b. marked out b ++ tail'.written) shown ∙ ap (λ xs. marked out text ++ xs) front.1 ∙ sym (append_assoc (marked out text) tail.written front.0),
+    )

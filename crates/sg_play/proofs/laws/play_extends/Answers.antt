@@ -1,0 +1,8 @@
+use Rattle.sg_play.proofs.Plays.{ended-stays, waits-front}
+use Rattle.sg_play.proofs.laws.play_extends.Goals as goal
+
+pub returns : goal.returns
+returns c = record {
+  ended = λ bytes more whole p no d. ended-stays d more whole no;
+  waits = λ bytes more whole p q w d e. waits-front more whole d e w;
+}

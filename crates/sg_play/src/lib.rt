@@ -1,0 +1,9 @@
+//! What a script does, over all of its bytes: the definition that the whole run is held to.
+//!
+//! `specs/Play` takes statements from the front of the bytes and executes them in turn: `Cut` says where the next one
+//! stands, `IsReadAs` what its text is read as, and the process of `sg_eval` what it does. The outcome has what was
+//! written, how the play ended, with the line, and the place of the statement that ended it. `laws` has what the run
+//! needs: a play has one outcome, and more bytes only extend it.
+#![tactic(auto)]
+
+pub mod laws;
