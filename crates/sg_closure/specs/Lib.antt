@@ -1,3 +1,4 @@
 pub mod Marks
 pub mod Steps
 pub mod Differences
+pub mod Saturation

@@ -1,4 +1,4 @@
-//! Arf semigroups and those of maximal embedding dimension, and the least of each kind above a semigroup.
+//! Arf semigroups, those of maximal embedding dimension and saturated ones, and the least of each kind above one.
 //!
 //! A semigroup is seen as its minimal list of generators. The one contract that the layer above uses: each test answers
 //! its definition over all members, and each closure is the least numerical semigroup of its kind that holds all of the
@@ -9,8 +9,10 @@
 mod arf;
 mod marks;
 mod med;
+mod saturated;
 #[cfg(test)]
 mod tests;
 
 pub use arf::{arf_closure, is_arf};
 pub use med::{is_med, med_closure};
+pub use saturated::{is_saturated, saturated_closure};

@@ -1,0 +1,29 @@
+use Rattle.std.proofs.Common.{◌≡◌, ℕ, ◌<◌, ◌++◌, ◌↔◌, Bool, List, length, take, drop, sym, subst, ◌∙◌}
+use Rattle.std.proofs.lemmas.List.{take_at}
+use Rattle.std.proofs.lemmas.Result.{IfOk-weaker}
+use Rattle.sg_defs.specs.Membership.{IsNumericalSemigroup, IsMinimal, Generates}
+use Rattle.sg_defs.specs.Closures.{IsSaturatedClosure}
+use Rattle.sg_closure.specs.Marks.{IsIn, IsAbove, AreGeneratorMarks}
+use Rattle.sg_closure.proofs.SaturatedLemmas.{saturation-above, saturation-closure}
+use Rattle.sg_closure.proofs.saturated.saturated_closure.Goals as goal
+
+pub marked_table-requires-clause-above : goal.marked_table-requires-clause-above
+marked_table-requires-clause-above c =
+    let G = c.args.table.now in
+    let marks = c.mark_multiples.new.marks in
+    let start = subst (AreGeneratorMarks G) (sym c.deref_mut.ensures.value) c.in_ok-marks.ensures in
+    let same : c.deref.result.now ≡ marks = c.deref.ensures.value ∙ take_at marks (drop (length marks) c.in_ok-marks.marks.items) c.in_ok-marks.marks.len
+    (c.mark_multiples.ensures.length ∙ c.deref_mut.ensures.len) in
+    subst (IsAbove G) (sym same) (saturation-above G c.mark_multiples.ensures.semigroup c.mark_multiples.ensures.minimal c.deref_mut.result.now marks start
+    c.mark_multiples.ensures.length c.mark_multiples.ensures.multiples)
+
+pub returns : goal.returns
+returns c =
+    let G = c.args.table.now in
+    let marks = c.mark_multiples.new.marks in
+    let start = subst (AreGeneratorMarks G) (sym c.deref_mut.ensures.value) c.in_ok-marks.ensures in
+    let same : c.deref.result.now ≡ marks = c.deref.ensures.value ∙ take_at marks (drop (length marks) c.in_ok-marks.marks.items) c.in_ok-marks.marks.len
+    (c.mark_multiples.ensures.length ∙ c.deref_mut.ensures.len) in
+    IfOk-weaker c.marked_table.result (λ M. Generates (IsIn c.deref.result.now) M) (λ M. IsSaturatedClosure G M)
+    (λ M g. saturation-closure G c.mark_multiples.ensures.semigroup c.mark_multiples.ensures.minimal c.deref_mut.result.now marks start
+    c.mark_multiples.ensures.length c.mark_multiples.ensures.multiples M (subst (λ x. Generates (IsIn x) M) same g)) c.marked_table.ensures.generated
