@@ -12,3 +12,7 @@ pub mod KunzLemmas
 pub mod ExistsLemmas
 pub mod DerivedLemmas
 pub mod QuotientLemmas
+pub mod SmallLemmas
+pub mod FitLemmas
+pub mod LeastLemmas
+pub mod TrimLemmas

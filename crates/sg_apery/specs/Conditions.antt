@@ -1,7 +1,7 @@
 -- Which naturals each constructor's semigroup has, and when each refusal comes.
 use Rattle.sg_apery.specs.declared.fault.TableFault.{TableFault}
 use Rattle.sg_apery.specs.declared.fault.TableFault.TheVariants.{BadArgument, TooLarge, Memory}
-use Rattle.std.specs.Prelude.{◌≡◌, List, ℕ, ◌*◌, ◌<◌}
+use Rattle.std.specs.Prelude.{◌≡◌, List, ℕ, ◌+◌, ◌*◌, ◌<◌, ◌⊎◌, length, slice_index, Contains, EachIndex}
 use Rattle.sg_defs.specs.Membership.{IsMember}
 use Rattle.sg_apery.specs.Classes.{IsAboveEntry, IsKunz}
 use Rattle.sg_apery.specs.Fit.{IsTooLarge}
@@ -25,3 +25,31 @@ abbrev pub IsQuotientRefused : List ℕ → ℕ → TableFault → Type 0
 IsQuotientRefused G d BadArgument = d ≡ 0
 IsQuotientRefused G d TooLarge = (0 < d) × IsTooLarge (IsInQuotient G d)
 IsQuotientRefused G d (Memory e) = Unit {0}
+
+-- an entry, or above every entry
+abbrev pub IsInSmall : List ℕ → ℕ → Type 0
+IsInSmall list n = Contains list n ⊎ EachIndex list (λ k. slice_index list k < n)
+
+-- the sum of two numbers with P does not have P
+abbrev pub IsNotClosed : (ℕ → Type 0) → Type 0
+IsNotClosed P = (x y : ℕ) × P x × P y × (P (x + y) → ⊥)
+
+-- the sum of two numbers with P has P
+abbrev pub IsClosedSet : (ℕ → Type 0) → Type 0
+IsClosedSet P = (x y : ℕ) → P x → P y → P (x + y)
+
+-- numbers that are not closed under sums, or a semigroup past the limits
+abbrev pub IsClosedRefused : (ℕ → Type 0) → TableFault → Type 0
+IsClosedRefused P BadArgument = IsNotClosed P
+IsClosedRefused P TooLarge = IsClosedSet P × IsTooLarge P
+IsClosedRefused P (Memory e) = Unit {0}
+
+-- 0 is an entry, and the sums of two numbers of the set are in it
+abbrev pub AreSmallAccepted : List ℕ → Type 0
+AreSmallAccepted list = Contains list 0 × IsClosedSet (IsInSmall list)
+
+-- no entries, or 0 is none, or numbers that are not closed under sums; then a semigroup past the limits
+abbrev pub AreSmallRefused : List ℕ → TableFault → Type 0
+AreSmallRefused list BadArgument = (length list ≡ 0) ⊎ (Contains list 0 → ⊥) ⊎ IsNotClosed (IsInSmall list)
+AreSmallRefused list TooLarge = AreSmallAccepted list × IsTooLarge (IsInSmall list)
+AreSmallRefused list (Memory e) = Unit {0}

@@ -1,3 +1,4 @@
+pub mod Small
 pub mod Conditions
 pub mod Classes
 pub mod Entries

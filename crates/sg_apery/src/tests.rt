@@ -89,3 +89,28 @@ fn lists_modulo_other_members(rt: HostRuntime) -> Result<(), Fail> {
     assert_eq!(rt; five.as_slice(), [0, 6, 7, 3, 9].as_slice());
     Ok(())
 }
+
+#[test]
+fn small_elements_in_any_order(rt: HostRuntime) -> Result<(), Fail> {
+    let table = Table::from_small_elements(rt.alloc(), &[5, 0, 3, 3])?;
+    assert_eq!(rt; table.generators().as_slice(), [3, 5, 7].as_slice());
+    assert!(rt;
+        matches!(
+            Table::from_small_elements(rt.alloc(), &[0, 2, 5]),
+            Err(TableFault::BadArgument)
+        )
+    );
+    assert!(rt;
+        matches!(
+            Table::from_small_elements(rt.alloc(), &[3, 18_446_744_073_709_551_615]),
+            Err(TableFault::BadArgument)
+        )
+    );
+    assert!(rt;
+        matches!(
+            Table::from_small_elements(rt.alloc(), &[0, 18_446_744_073_709_551_615]),
+            Err(TableFault::TooLarge)
+        )
+    );
+    Ok(())
+}

@@ -1,0 +1,146 @@
+-- Small elements up to the conductor.
+use Rattle.std.proofs.Common.{◌≡◌, ℕ, ◌+◌, ◌-◌, ◌^◌, ◌<◌, ◌≤◌, ◌↔◌, List, length, get_or, take, sym, ap, subst, ◌∙◌, inl, inr, arith}
+use Rattle.std.specs.Prelude.{Contains}
+use Rattle.std.proofs.lemmas.Bool.{cases_lt}
+use Rattle.std.proofs.lemmas.List.{get_or-take, length-take-le}
+use Rattle.std.specs.List.Sorted.{IsStrictlyIncreasing}
+use Rattle.sg_apery.specs.Conditions.{AreSmallRefused, IsClosedRefused, IsClosedSet, IsInSmall, IsNotClosed}
+use Rattle.sg_apery.specs.Fit.{IsSizeFault, IsTooLarge}
+use Rattle.sg_apery.specs.Small.{AreSmallElements, HasGapBefore, HasGapBelowLast, IsRun}
+use Rattle.sg_apery.specs.declared.fault.TableFault.{TableFault}
+use Rattle.sg_apery.specs.declared.fault.TableFault.TheVariants.{BadArgument, TooLarge, Memory}
+use Rattle.sg_apery.proofs.DerivedLemmas.{too_large-iff}
+use Rattle.sg_apery.proofs.EntryLemmas.{first-least}
+use Rattle.sg_apery.proofs.FitLemmas.{too_large-from_gap, too_large-from_least}
+use Rattle.sg_apery.proofs.GeneratorLemmas.{contains-place, place-contains}
+use Rattle.sg_apery.proofs.SmallLemmas.{less, up_to, small-cofinite}
+
+module _ (list : List ℕ) (s : AreSmallElements list) where
+  -- one more entry of the run
+  pub run-more : (start place : ℕ) → start + 1 ≤ place → place < length list → get_or list place 0 - get_or list (place - 1) 0 ≤ 1 → IsRun list start place → IsRun list start (place + 1)
+  run-more start place l inside near run k m = elim (cases_lt (start + k) place) [
+    | inl before ↦ run k before
+    | inr last ↦
+        let e : start + k ≡ place = omega arith in
+        let f : start + (k - 1) ≡ place - 1 = omega arith in
+        omega (arith, ap (λ j. get_or list j 0) e, ap (λ j. get_or list j 0) f, run (k - 1) (omega arith), less list s (place - 1) place (omega arith) inside, near)
+  ]
+
+  pub run-new : (place : ℕ) → IsRun list place (place + 1)
+  run-new place k m = let e : place + k ≡ place = omega arith in omega (arith, ap (λ j. get_or list j 0) e)
+
+  module _ (start : ℕ) (inside : start < length list) (run : IsRun list start (length list)) (gap : HasGapBefore list start) where
+    long : length (take (start + 1) list) ≡ start + 1
+    long = length-take-le (start + 1) list (omega arith)
+
+    at : (i : ℕ) → i < start + 1 → get_or (take (start + 1) list) i 0 ≡ get_or list i 0
+    at i l = get_or-take (start + 1) list i 0 l
+
+    pub trimmed-small : AreSmallElements (take (start + 1) list)
+    trimmed-small = record {
+      not_empty = omega (arith, long);
+      ascending = λ k l. omega (arith, at k (omega (arith, long)), at (k + 1) (omega (arith, long)), s.ascending k (omega (arith, long)));
+      zero = at 0 (omega arith) ∙ s.zero;
+    }
+
+    there : (n : ℕ) → IsInSmall list n → IsInSmall (take (start + 1) list) n
+    there n (inr h) = inr (λ k m. omega (arith, at k (omega (arith, long)), h k (omega (arith, long))))
+    there n (inl h) =
+        let p = contains-place list n h in
+        elim (cases_lt p.0 (start + 1)) [
+          | inl before ↦ inl (subst (Contains (take (start + 1) list)) (at p.0 before ∙ p.2) (place-contains (take (start + 1) list) p.0 (omega (arith, long))))
+          | inr after ↦ inr (λ k m. omega (arith, at k (omega (arith, long)), p.2, less list s k p.0 (omega (arith, long)) p.1))
+        ]
+
+    back : (n : ℕ) → IsInSmall (take (start + 1) list) n → IsInSmall list n
+    back n (inl h) =
+        let p = contains-place (take (start + 1) list) n h in
+        inl (subst (Contains list) (sym (at p.0 (omega (arith, p.1, long))) ∙ p.2) (place-contains list p.0 (omega (arith, p.1, long))))
+    back n (inr h) =
+        let above : get_or list start 0 < n = omega (arith, at start (omega arith), h start (omega (arith, long))) in
+        let d = n - get_or list start 0 in
+        elim (cases_lt (start + d) (length list)) [
+          | inl within ↦
+              let e : get_or list (start + d) 0 ≡ n = omega (arith, run d within) in
+              inl (subst (Contains list) e (place-contains list (start + d) within))
+          | inr past ↦
+              let w = length list - 1 - start in
+              let e : start + w ≡ length list - 1 = omega arith in
+              inr (λ k m. omega (arith, up_to list s k (length list - 1) (omega arith) (omega arith), run w (omega arith), ap (λ j. get_or list j 0) e))
+        ]
+
+    pub trimmed-same : (n : ℕ) → IsInSmall list n ↔ IsInSmall (take (start + 1) list) n
+    trimmed-same n = ((there n), (back n))
+
+    pub trimmed-gap : HasGapBelowLast (take (start + 1) list)
+    trimmed-gap n e h = elim h [
+      | inr above ↦ omega (arith, last, above start (omega (arith, long)), at start (omega arith))
+      | inl listed ↦
+          let p = contains-place (take (start + 1) list) n listed in
+          let q = at p.0 (omega (arith, p.1, long)) in
+          elim (cases_lt p.0 start) [
+            | inl before ↦ omega (arith, last, p.2, q, gap (omega arith), up_to list s p.0 (start - 1) (omega arith) (omega arith))
+            | inr here ↦ let f : p.0 ≡ start = omega (arith, p.1, long) in omega (arith, last, p.2, q, ap (λ j. get_or list j 0) f)
+          ]
+    ]
+      where
+        last : n + 1 ≡ get_or list start 0
+        last = let f : length (take (start + 1) list) - 1 ≡ start = omega (arith, long) in e ∙ ap (λ j. get_or (take (start + 1) list) j 0) f ∙ at start (omega arith)
+
+  -- the multiplicity is past its limit
+  pub small-too_large_least : (m : ℕ) → IsClosedSet (IsInSmall list) → 2 ^ 20 < m → ((x : ℕ) → 0 < x → IsInSmall list x → m ≤ x) → IsTooLarge (IsInSmall list)
+  small-too_large_least m closed l least = too_large-from_least (IsInSmall list) (get_or list (length list - 1) 0 + 1) (small-cofinite list s closed) m l least
+
+  -- the conductor is past the product of the limits
+  pub small-too_large_gap : IsClosedSet (IsInSmall list) → 2 ^ 52 < get_or list (length list - 1) 0 → HasGapBelowLast list → IsTooLarge (IsInSmall list)
+  small-too_large_gap closed l gap =
+      let c = get_or list (length list - 1) 0 in
+      too_large-from_gap (IsInSmall list) (c + 1) (small-cofinite list s closed) (c - 1) (omega arith) (gap (c - 1) (omega arith))
+
+-- the same set by two conditions
+module _ (P Q : ℕ → Type 0) (same : (n : ℕ) → P n ↔ Q n) where
+  pub not_closed-iff : IsNotClosed Q → IsNotClosed P
+  not_closed-iff h = (h.0, h.1, (same h.0).1 h.2, (same h.1).1 h.3, λ p. h.4 ((same (h.0 + h.1)).0 p))
+
+  pub closed-iff : IsClosedSet Q → IsClosedSet P
+  closed-iff h x y p q = (same (x + y)).1 (h x y ((same x).0 p) ((same y).0 q))
+
+  pub closed_refused-iff : (f : TableFault) → IsClosedRefused Q f → IsClosedRefused P f
+  closed_refused-iff BadArgument h = not_closed-iff h
+  closed_refused-iff TooLarge h = (closed-iff h.0, too_large-iff P Q same h.1)
+  closed_refused-iff (Memory e) h = tt
+
+  pub size_closed : IsClosedSet Q → (f : TableFault) → IsSizeFault Q f → IsClosedRefused P f
+  size_closed closed BadArgument h = absurd h
+  size_closed closed TooLarge h = (closed-iff closed, too_large-iff P Q same h)
+  size_closed closed (Memory e) h = tt
+
+-- two lists with the same entries
+module _ (xs ys : List ℕ) (keeps : (x : ℕ) → Contains xs x → Contains ys x) (only : (x : ℕ) → Contains ys x → Contains xs x) where
+  half : (us vs : List ℕ) → ((x : ℕ) → Contains us x → Contains vs x) → ((x : ℕ) → Contains vs x → Contains us x) → (n : ℕ) → IsInSmall us n → IsInSmall vs n
+  half us vs f g n (inl h) = inl (f n h)
+  half us vs f g n (inr h) = inr (λ k m. let p = contains-place us (get_or vs k 0) (g (get_or vs k 0) (place-contains vs k m)) in omega (arith, h p.0 p.1, p.2))
+
+  pub entries-same : (n : ℕ) → IsInSmall xs n ↔ IsInSmall ys n
+  entries-same n = ((half xs ys keeps only n), (half ys xs only keeps n))
+
+  pub ascending-small : IsStrictlyIncreasing ys → Contains xs 0 → AreSmallElements ys
+  ascending-small a z =
+      let p = contains-place ys 0 (keeps 0 z) in
+      record {
+        not_empty = omega (arith, p.1);
+        ascending = a;
+        zero = omega (arith, first-least ys a p.0 p.1, p.2);
+      }
+
+  pub small-refused : Contains xs 0 → (f : TableFault) → IsClosedRefused (IsInSmall ys) f → AreSmallRefused xs f
+  small-refused z BadArgument h = inr (inr (not_closed-iff (IsInSmall xs) (IsInSmall ys) entries-same h))
+  small-refused z TooLarge h = ((z, closed-iff (IsInSmall xs) (IsInSmall ys) entries-same h.0), too_large-iff (IsInSmall xs) (IsInSmall ys) entries-same h.1)
+  small-refused z (Memory e) h = tt
+
+-- entries that are kept by a sort of a copy
+pub keeps-sorted : (list items sorted value : List ℕ) → items ≡ list → value ≡ sorted → ((x : ℕ) → Contains items x → Contains sorted x) → (x : ℕ) → Contains list x → Contains value x
+keeps-sorted list items sorted value e f h x p = subst (λ l. Contains l x) (sym f) (h x (subst (λ l. Contains l x) (sym e) p))
+
+pub only-sorted : (list items sorted value : List ℕ) → items ≡ list → value ≡ sorted → ((x : ℕ) → Contains sorted x → Contains items x) → (x : ℕ) → Contains value x → Contains list x
+only-sorted list items sorted value e f h x p = subst (λ l. Contains l x) e (h x (subst (λ l. Contains l x) f p))
