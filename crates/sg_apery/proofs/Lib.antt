@@ -16,3 +16,4 @@ pub mod SmallLemmas
 pub mod FitLemmas
 pub mod LeastLemmas
 pub mod TrimLemmas
+pub mod GapLemmas

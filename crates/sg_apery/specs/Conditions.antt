@@ -2,7 +2,7 @@
 use Rattle.sg_apery.specs.declared.fault.TableFault.{TableFault}
 use Rattle.sg_apery.specs.declared.fault.TableFault.TheVariants.{BadArgument, TooLarge, Memory}
 use Rattle.std.specs.Prelude.{◌≡◌, List, ℕ, ◌+◌, ◌*◌, ◌<◌, ◌⊎◌, length, slice_index, Contains, EachIndex}
-use Rattle.sg_defs.specs.Membership.{IsMember}
+use Rattle.sg_defs.specs.Membership.{IsMember, Generates}
 use Rattle.sg_apery.specs.Classes.{IsAboveEntry, IsKunz}
 use Rattle.sg_apery.specs.Fit.{IsTooLarge}
 
@@ -53,3 +53,13 @@ abbrev pub AreSmallRefused : List ℕ → TableFault → Type 0
 AreSmallRefused list BadArgument = (length list ≡ 0) ⊎ (Contains list 0 → ⊥) ⊎ IsNotClosed (IsInSmall list)
 AreSmallRefused list TooLarge = AreSmallAccepted list × IsTooLarge (IsInSmall list)
 AreSmallRefused list (Memory e) = Unit {0}
+
+-- no entry
+abbrev pub IsOutside : List ℕ → ℕ → Type 0
+IsOutside list n = Contains list n → ⊥
+
+-- the naturals outside the list are no numerical semigroup, or one past the limits
+abbrev pub AreGapsRefused : List ℕ → TableFault → Type 0
+AreGapsRefused list BadArgument = (M : List ℕ) → Generates (IsOutside list) M → ⊥
+AreGapsRefused list TooLarge = IsTooLarge (IsOutside list)
+AreGapsRefused list (Memory e) = Unit {0}

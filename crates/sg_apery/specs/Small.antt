@@ -1,5 +1,5 @@
 -- What is found of an ascending list of small elements.
-use Rattle.std.specs.Prelude.{◌≡◌, ℕ, ◌+◌, ◌-◌, ◌%◌, ◌<◌, ◌≤◌, ◌⊎◌, Bool, true, false, List, length, slice_index, slice_index_or}
+use Rattle.std.specs.Prelude.{◌≡◌, ℕ, ◌+◌, ◌-◌, ◌%◌, ◌<◌, ◌≤◌, ◌⊎◌, Bool, true, false, List, length, slice_index, slice_index_or, Contains}
 use Rattle.std.specs.List.Sorted.{IsStrictlyIncreasing}
 use Rattle.sg_apery.specs.Conditions.{IsInSmall}
 
@@ -47,3 +47,11 @@ pub record IsLoweredBy (list old now : List ℕ) (k : ℕ) : Type 0 where
       (slice_index now i ≡ slice_index old i) ⊎ ((j : ℕ) × (j < k) × (slice_index now i ≡ slice_index list j) × (slice_index list j % length old ≡ i))
   pub down : (i : ℕ) → i < length old → slice_index now i ≤ slice_index old i
   pub listed : (j : ℕ) → j < k → slice_index now (slice_index list j % length old) ≤ slice_index list j
+
+-- the list has the numbers below n that are no gaps, and the gaps below n are those before place next
+pub record IsComplement (gaps list : List ℕ) (next n : ℕ) : Type 0 where
+  pub before : (k : ℕ) → k < next → slice_index gaps k < n
+  pub after : (k : ℕ) → next ≤ k → k < length gaps → n ≤ slice_index gaps k
+  pub ascending : IsStrictlyIncreasing list
+  pub listed : (k : ℕ) → k < length list → (slice_index list k < n) × (Contains gaps (slice_index list k) → ⊥)
+  pub whole : (x : ℕ) → x < n → Contains gaps x ⊎ Contains list x

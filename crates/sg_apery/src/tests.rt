@@ -114,3 +114,24 @@ fn small_elements_in_any_order(rt: HostRuntime) -> Result<(), Fail> {
     );
     Ok(())
 }
+
+#[test]
+fn gaps_in_any_order(rt: HostRuntime) -> Result<(), Fail> {
+    let table = Table::from_gaps(rt.alloc(), &[4, 1, 2, 1])?;
+    assert_eq!(rt; table.generators().as_slice(), [3, 5, 7].as_slice());
+    let naturals = Table::from_gaps(rt.alloc(), &[])?;
+    assert_eq!(rt; naturals.generators().as_slice(), [1].as_slice());
+    assert!(rt;
+        matches!(
+            Table::from_gaps(rt.alloc(), &[2]),
+            Err(TableFault::BadArgument)
+        )
+    );
+    assert!(rt;
+        matches!(
+            Table::from_gaps(rt.alloc(), &[1, 9_223_372_036_854_775_807]),
+            Err(TableFault::BadArgument)
+        )
+    );
+    Ok(())
+}
