@@ -1,17 +1,15 @@
 -- Arguments, and names that something else follows.
-use Rattle.std.proofs.Common.{◌≡◌, ℕ, ◌+◌, ◌<◌, ◌≤◌, List, [], ◌∷◌, Option, None, Some, ◌⊎◌, ⊎_elim, refl, sym, ap, ◌∙◌, subst, arith}
+use Rattle.std.proofs.Common.{◌≡◌, ℕ, ◌≤◌, List, ◌∷◌, ⊎_elim, refl, ap, ◌∙◌, subst, arith}
 use Rattle.sg_token.specs.declared.token.Token.{Token}
 use Rattle.sg_token.specs.declared.token.Token.TheVariants as token
 use Rattle.sg_token.specs.declared.word.Word.TheVariants as word
 use Rattle.sg_token.specs.declared.symbol.Symbol.TheVariants as symbol
 use Rattle.sg_tree.specs.Tree.{Tree, variable, Argument, plain, arrow}
-use Rattle.sg_tree.specs.declared.expr.Op.{Op}
-use Rattle.sg_tree.specs.declared.expr.Rel.{Rel}
 use Rattle.sg_script.specs.declared.rank.Rank.{Rank}
 use Rattle.sg_script.specs.declared.rank.Rank.TheVariants as rank
 use Rattle.sg_script.specs.Grammar.{Chain, OneGiven, an_arrow, a_value}
 use Rattle.sg_script.specs.Reading.{Found, Nothing, Counts, EndsGiven, NamesNot, OperatesNot, ComparesNot}
-use Rattle.sg_script.specs.Signs.{op_of, relation_of, rank_of, level, binding, StopsAt}
+use Rattle.sg_script.specs.Signs.{rank_of, level, binding, StopsAt}
 use Rattle.sg_script.proofs.SignLemmas.{binding-op, binding-relation}
 use Rattle.sg_script.proofs.ChainLemmas.{found-chain, end-links, found-conjunction, found-product, found-negative, found-unary, found-alone}
 use Rattle.sg_script.proofs.AtomLemmas.{found-variable, found-named, found-item, end-indices, ends-stop}

@@ -1,18 +1,17 @@
 -- Items, atoms and calls: what is found at the front of tokens.
-use Rattle.std.proofs.Common.{◌≡◌, ℕ, zero, suc, ◌+◌, ◌<◌, ◌≤◌, List, [], ◌∷◌, ◌++◌, Option, None, Some, ◌⊎◌, inl, inr, ⊎_elim, true, false, refl, sym, ap, ◌∙◌, subst, arith}
+use Rattle.std.proofs.Common.{◌≡◌, ℕ, ◌<◌, List, [], ◌∷◌, None, Some, inl, inr, ⊎_elim, true, false, refl, sym, ap, ◌∙◌, subst, arith}
 use Rattle.sg_token.specs.declared.token.Token.{Token}
 use Rattle.sg_token.specs.declared.token.Token.TheVariants as token
 use Rattle.sg_token.specs.declared.word.Word.TheVariants as word
 use Rattle.sg_token.specs.declared.symbol.Symbol.TheVariants as symbol
-use Rattle.sg_tree.specs.Tree.{Tree, number, quoted, truth, failing, variable, call, display, span, no_trees, Argument, plain, arrow, trees, arguments}
+use Rattle.sg_tree.specs.Tree.{Tree, number, quoted, truth, failing, variable, call, Argument, arguments}
 use Rattle.sg_script.specs.declared.rank.Rank.TheVariants as rank
-use Rattle.sg_script.specs.Grammar.{indexed, Chain, Item, an_item, Indices, no_index, one_index, Atom, a_number, a_string, a_true, a_false, a_fail, a_name, a_call, parenthesized, an_empty_list, a_list, a_range, Entries, last_entry, one_entry, Given, none_given, some_given, MoreGiven, last_given, one_given, OneGiven, an_arrow, a_value}
+use Rattle.sg_script.specs.Grammar.{indexed, Chain, Item, an_item, Indices, no_index, one_index, Atom, a_number, a_string, a_true, a_false, a_fail, a_name, a_call, parenthesized, an_empty_list, a_list, a_range, Given, none_given, some_given, MoreGiven, last_given, one_given, OneGiven, a_value}
 use Rattle.sg_script.specs.Literals.{literal_of}
-use Rattle.sg_script.specs.Reading.{Found, Nothing, Onward, Counts, Closed, Always, Named, Bracketed, Listed, EndsGiven, NamesNot, OperatesNot, ComparesNot}
-use Rattle.sg_script.specs.Signs.{op_of, relation_of, binding, StopsAt}
-use Rattle.sg_script.proofs.SignLemmas.{stops-more, binding-op, binding-relation}
-use Rattle.sg_script.proofs.BeginLemmas.{starts-expression, Starts}
-use Rattle.sg_script.proofs.ChainLemmas.{found-chain, end-links, found-conjunction, found-product, found-negative, found-unary, found-alone}
+use Rattle.sg_script.specs.Reading.{Found, Nothing, Onward, Closed, Always, Named, Bracketed, EndsGiven}
+use Rattle.sg_script.specs.Signs.{binding, StopsAt}
+use Rattle.sg_script.proofs.SignLemmas.{stops-more}
+use Rattle.sg_script.proofs.BeginLemmas.{starts-expression}
 
 -- an expression and the token that closes it
 

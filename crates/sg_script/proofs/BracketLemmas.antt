@@ -1,5 +1,5 @@
 -- Lists and ranges in brackets: what is found behind the bracket that opens them.
-use Rattle.std.proofs.Common.{◌≡◌, ℕ, ◌+◌, ◌<◌, ◌≤◌, List, [], ◌∷◌, ◌++◌, refl, sym, ap, ◌∙◌, subst, arith}
+use Rattle.std.proofs.Common.{◌≡◌, List, [], ◌∷◌, refl, sym, ap, ◌∙◌, subst, arith}
 use Rattle.sg_token.specs.declared.token.Token.{Token}
 use Rattle.sg_token.specs.declared.token.Token.TheVariants as token
 use Rattle.sg_token.specs.declared.symbol.Symbol.TheVariants as symbol
@@ -7,7 +7,7 @@ use Rattle.sg_tree.specs.Tree.{Tree, display, span, no_trees, trees}
 use Rattle.sg_script.specs.declared.rank.Rank.TheVariants as rank
 use Rattle.sg_script.specs.Grammar.{Chain, Atom, an_empty_list, a_list, a_range, Entries, last_entry, one_entry}
 use Rattle.sg_script.specs.Reading.{Found, Nothing, Onward, Closed, Always, Bracketed, Listed}
-use Rattle.sg_script.specs.Signs.{binding, StopsAt}
+use Rattle.sg_script.specs.Signs.{StopsAt}
 use Rattle.sg_script.proofs.BeginLemmas.{starts-expression}
 
 no-expression-here : {ts us : List Token} {t : Tree} → Chain rank.Or (token.Symbol symbol.CloseBracket ∷ ts) t us → ⊥

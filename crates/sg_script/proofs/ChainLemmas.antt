@@ -1,5 +1,5 @@
 -- Chains, their operands, and comparisons: what is found at the front of tokens.
-use Rattle.std.proofs.Common.{◌≡◌, ℕ, zero, suc, ◌+◌, ◌<◌, ◌≤◌, List, [], ◌∷◌, ◌++◌, Option, None, Some, refl, sym, ap, ◌∙◌, subst, arith}
+use Rattle.std.proofs.Common.{◌≡◌, ℕ, ◌+◌, List, [], ◌∷◌, Some, refl, sym, ap, ◌∙◌, subst, arith}
 use Rattle.sg_token.specs.declared.token.Token.{Token}
 use Rattle.sg_token.specs.declared.token.Token.TheVariants as token
 use Rattle.sg_token.specs.declared.word.Word.TheVariants as word
@@ -10,7 +10,7 @@ use Rattle.sg_tree.specs.declared.expr.Rel.{Rel}
 use Rattle.sg_script.specs.declared.rank.Rank.{Rank}
 use Rattle.sg_script.specs.declared.rank.Rank.TheVariants as rank
 use Rattle.sg_script.specs.Grammar.{times, joined, negated, signed, Chain, chained, Linked, no_link, one_link, Operand, conjunction, negative, product, unary, Comparison, alone, compared, Item}
-use Rattle.sg_script.specs.Reading.{Found, Nothing, Onward, Operates, OperatesNot, Compares, ComparesNot, Counts}
+use Rattle.sg_script.specs.Reading.{Found, Nothing, Onward, OperatesNot, ComparesNot, Counts}
 use Rattle.sg_script.specs.Signs.{op_of, relation_of, rank_of, level, binding, StopsAt}
 use Rattle.sg_script.proofs.SignLemmas.{times-one, stops-more, binding-op, binding-relation}
 use Rattle.sg_script.proofs.BeginLemmas.{starts-comparison, starts-item, Starts}

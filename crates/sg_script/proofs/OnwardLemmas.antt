@@ -1,5 +1,5 @@
 -- Repetitions, read one item after the other.
-use Rattle.std.proofs.Common.{◌≡◌, List, [], ◌∷◌, ◌++◌, append_assoc, refl, sym, ap, ◌∙◌, subst}
+use Rattle.std.proofs.Common.{List, [], ◌++◌, append_assoc, refl, sym, ap, ◌∙◌, subst}
 use Rattle.sg_token.specs.declared.token.Token.{Token}
 use Rattle.sg_script.specs.Reading.{Found, Nothing, Onward}
 

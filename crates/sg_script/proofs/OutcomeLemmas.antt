@@ -1,7 +1,5 @@
 -- Each text has one outcome at most.
-use Rattle.std.proofs.Common.{Result, Ok, Err, IfOk, ◌≡◌, ℕ, List, refl, sym, ap, ◌∙◌, subst}
-use Rattle.sg_token.specs.declared.token.Token.{Token}
-use Rattle.sg_token.specs.Tokens.{FallsInto}
+use Rattle.std.proofs.Common.{Result, Ok, Err, IfOk, ◌≡◌, ℕ, List, refl, ap, subst}
 use Rattle.sg_token.proofs.FallLemmas.{one-list}
 use Rattle.sg_tree.specs.Tree.{Code}
 use Rattle.sg_tree.specs.TreeView.{code_of}
@@ -11,7 +9,7 @@ use Rattle.sg_script.specs.declared.fault.ParseFault.{ParseFault}
 use Rattle.sg_script.specs.declared.fault.ParseFault.TheVariants as fault
 use Rattle.sg_script.specs.Depth.{IsDeep}
 use Rattle.sg_script.specs.Grammar.{IsStatement}
-use Rattle.sg_script.specs.Outcome.{Outcome, a_tree, too_deep, no_statement, IsReadAs, torn, deep, parsed, unparsed, Tells}
+use Rattle.sg_script.specs.Outcome.{Outcome, a_tree, IsReadAs, torn, deep, parsed, unparsed, Tells}
 use Rattle.sg_script.proofs.UniqueStatementLemmas.{one-code}
 use Rattle.sg_script.proofs.WellFormedLemmas.{good-statement}
 

@@ -1,5 +1,5 @@
 -- Answers of the reader, by the answers of its parts.
-use Rattle.std.proofs.Common.{arith, ◌≡◌, ℕ, List, [], ◌∷◌, length, true, false, Vec, Global, Result, Ok, Err, IsErrAnd, refl, sym, ap, ◌∙◌, subst}
+use Rattle.std.proofs.Common.{arith, ◌≡◌, ℕ, List, [], length, true, false, Vec, Global, Result, Err, IsErrAnd, refl, sym, subst}
 use Rattle.std.specs.Prelude.{◌==◌, IsErrOf}
 use Rattle.std.proofs.lemmas.Bool.Decides.{nat_tests}
 use Rattle.std.proofs.lemmas.List.{nil_from_length}
@@ -10,7 +10,6 @@ use Rattle.sg_token.specs.declared.token.TokenFault.TheVariants as token_fault
 use Rattle.sg_token.specs.Tokens.{FallsInto}
 use Rattle.sg_tree.specs.declared.stmt.Stmt.{Stmt}
 use Rattle.sg_script.specs.declared.fault.ParseFault.{ParseFault}
-use Rattle.sg_script.specs.declared.fault.ParseFault.TheVariants as fault
 use Rattle.sg_script.specs.Depth.{IsDeep}
 use Rattle.sg_script.specs.Faults.{IsSameFault}
 use Rattle.sg_script.specs.Outcome.{IsReadAs, torn, unparsed, Tells, IsMadeOf}

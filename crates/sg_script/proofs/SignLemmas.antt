@@ -1,5 +1,5 @@
 -- Signs before and between operands.
-use Rattle.std.proofs.Common.{◌≡◌, ℕ, zero, suc, ◌+◌, ◌<◌, ◌≤◌, List, [], ◌∷◌, Option, None, Some, refl, sym, ap, ◌∙◌, subst, arith, add-one}
+use Rattle.std.proofs.Common.{◌≡◌, ℕ, zero, suc, ◌+◌, ◌≤◌, List, [], ◌∷◌, Some, refl, sym, ap, ◌∙◌, arith, add-one}
 use Rattle.sg_token.specs.declared.token.Token.{Token}
 use Rattle.sg_token.specs.declared.token.Token.TheVariants as token
 use Rattle.sg_token.specs.declared.word.Word.{Word}
@@ -8,8 +8,6 @@ use Rattle.sg_token.specs.declared.symbol.Symbol.{Symbol}
 use Rattle.sg_token.specs.declared.symbol.Symbol.TheVariants as symbol
 use Rattle.sg_tree.specs.declared.expr.Op.{Op}
 use Rattle.sg_tree.specs.declared.expr.Rel.{Rel}
-use Rattle.sg_script.specs.declared.rank.Rank.{Rank}
-use Rattle.sg_script.specs.declared.rank.Rank.TheVariants as rank
 use Rattle.sg_script.specs.Grammar.{times}
 use Rattle.sg_script.specs.Signs.{op_of, relation_of, relation_of_word, relation_of_symbol, rank_of, level, level_of_op, level_of_relation, level_of_bracket, binding, StopsAt}
 

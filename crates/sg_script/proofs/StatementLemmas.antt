@@ -1,5 +1,5 @@
 -- Statements and blocks: what is found at the front of tokens.
-use Rattle.std.proofs.Common.{◌≡◌, ℕ, ◌<◌, ◌≤◌, List, [], ◌∷◌, ◌++◌, true, false, refl, sym, ap, ◌∙◌, subst, arith}
+use Rattle.std.proofs.Common.{◌≡◌, ℕ, ◌≤◌, List, [], ◌∷◌, true, false, refl, sym, ap, ◌∙◌, subst, arith}
 use Rattle.sg_token.specs.declared.token.Token.{Token}
 use Rattle.sg_token.specs.declared.token.Token.TheVariants as token
 use Rattle.sg_token.specs.declared.word.Word.{Word}
@@ -11,7 +11,7 @@ use Rattle.sg_script.specs.Bodies.{word_ends_body, ends_body, EndsBody, EndsArms
 use Rattle.sg_script.specs.Grammar.{Chain, Inner, assigned, chosen, repeated, performed, Arm, an_arm, Elifs, no_elif, one_elif, Otherwise, no_else, an_else, Body, no_more, one_more, OneOf, an_empty, an_inner}
 use Rattle.sg_script.specs.Reading.{Found, Nothing, Onward, Closed, Always, NamesNot}
 use Rattle.sg_script.specs.Signs.{StopsAt}
-use Rattle.sg_script.proofs.BeginLemmas.{starts-expression, Starts, opens, opens_word}
+use Rattle.sg_script.proofs.BeginLemmas.{starts-expression, Starts, opens_word}
 use Rattle.sg_script.proofs.ArgumentLemmas.{name-alone}
 
 -- what statements begin with

@@ -1,8 +1,7 @@
 -- Each expression that stands at the front of tokens, and that nothing goes on with, is the only one.
-use Rattle.std.proofs.Common.{◌≡◌, ℕ, ◌+◌, ◌<◌, ◌≤◌, List, [], ◌∷◌, ◌++◌, Some, refl, sym, ap, ◌∙◌, subst, arith}
+use Rattle.std.proofs.Common.{◌≡◌, ◌+◌, List, ◌∷◌, refl, ap, ◌∙◌, subst, arith}
 use Rattle.sg_token.specs.declared.token.Token.{Token}
 use Rattle.sg_token.specs.declared.token.Token.TheVariants as token
-use Rattle.sg_token.specs.declared.word.Word.TheVariants as word
 use Rattle.sg_token.specs.declared.symbol.Symbol.TheVariants as symbol
 use Rattle.sg_tree.specs.declared.expr.Op.{Op}
 use Rattle.sg_tree.specs.Tree.{Tree, variable, Argument}
@@ -10,7 +9,7 @@ use Rattle.sg_script.specs.declared.rank.Rank.{Rank}
 use Rattle.sg_script.specs.declared.rank.Rank.TheVariants as rank
 use Rattle.sg_script.specs.Grammar.{Chain, chained, Linked, no_link, one_link, Operand, conjunction, negative, product, unary, Comparison, alone, compared, Item, an_item, Indices, no_index, one_index, Atom, a_number, a_string, a_true, a_false, a_fail, a_name, a_call, parenthesized, an_empty_list, a_list, a_range, Entries, last_entry, one_entry, Given, none_given, some_given, MoreGiven, last_given, one_given, OneGiven, an_arrow, a_value}
 use Rattle.sg_script.specs.Reading.{Found, Always, EndsGiven, NamesNot, OperatesNot, ComparesNot}
-use Rattle.sg_script.specs.Signs.{op_of, relation_of, rank_of, level, binding, StopsAt}
+use Rattle.sg_script.specs.Signs.{level, StopsAt}
 use Rattle.sg_script.proofs.SignLemmas.{stops-more, binding-op, binding-relation}
 use Rattle.sg_script.proofs.OnwardLemmas.{onward-found}
 use Rattle.sg_script.proofs.ChainLemmas.{operand-stops, found-chain, one-link, end-links, found-conjunction, found-product, not-not, found-negative, not-minus, found-unary, found-alone, found-compared}

@@ -1,14 +1,14 @@
 -- Each statement that stands at the front of tokens is the only one.
-use Rattle.std.proofs.Common.{◌≡◌, ℕ, ◌<◌, ◌≤◌, List, [], ◌∷◌, ◌++◌, true, false, refl, sym, ap, ◌∙◌, subst, arith}
+use Rattle.std.proofs.Common.{◌≡◌, List, [], ◌∷◌, refl, sym, subst, arith}
 use Rattle.sg_token.specs.declared.token.Token.{Token}
 use Rattle.sg_token.specs.declared.token.Token.TheVariants as token
 use Rattle.sg_token.specs.declared.word.Word.TheVariants as word
 use Rattle.sg_token.specs.declared.symbol.Symbol.TheVariants as symbol
 use Rattle.sg_tree.specs.Tree.{Tree, variable, Code, Block}
 use Rattle.sg_script.specs.declared.rank.Rank.TheVariants as rank
-use Rattle.sg_script.specs.Bodies.{ends_body, EndsBody, EndsArms, EndsChoice}
+use Rattle.sg_script.specs.Bodies.{EndsBody, EndsChoice}
 use Rattle.sg_script.specs.Grammar.{Chain, Inner, assigned, chosen, repeated, performed, Arm, an_arm, Elifs, no_elif, one_elif, Otherwise, no_else, an_else, Body, no_more, one_more, OneOf, an_empty, an_inner, IsStatement, the_last, a_statement}
-use Rattle.sg_script.specs.Reading.{Found, Closed, Always, NamesNot}
+use Rattle.sg_script.specs.Reading.{Found, Always}
 use Rattle.sg_script.specs.Signs.{StopsAt}
 use Rattle.sg_script.proofs.BeginLemmas.{starts-expression, Starts}
 use Rattle.sg_script.proofs.OnwardLemmas.{onward-found}

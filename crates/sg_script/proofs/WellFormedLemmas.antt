@@ -1,5 +1,5 @@
 -- The trees that the grammar gives are well formed.
-use Rattle.std.proofs.Common.{◌≡◌, ℕ, zero, suc, ◌≤◌, List, [], ◌∷◌, true, refl, sym, ap, ◌∙◌, arith}
+use Rattle.std.proofs.Common.{◌≡◌, ℕ, zero, suc, List, [], ◌∷◌, true, refl, sym, ◌∙◌, arith}
 use Rattle.std.specs.Prelude.{⊤}
 use Rattle.sg_token.specs.declared.token.Token.{Token}
 use Rattle.sg_tree.specs.declared.expr.Op.{Op}

@@ -1,6 +1,6 @@
 -- What follows a block, and what follows its last arm.
 use Rattle.std.specs.Prelude.{◌≡◌, Bool, true, false, List, [], ◌∷◌}
-use Rattle.sg_tree.specs.Tree.{Tree, Code, Block}
+use Rattle.sg_tree.specs.Tree.{Code}
 use Rattle.sg_token.specs.declared.token.Token.{Token}
 use Rattle.sg_token.specs.declared.token.Token.TheVariants as token
 use Rattle.sg_token.specs.declared.word.Word.{Word}

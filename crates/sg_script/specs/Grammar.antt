@@ -1,12 +1,11 @@
 -- The grammar: each relation says what stands at the front of a list of tokens, and what follows it.
-use Rattle.std.specs.Prelude.{◌≡◌, ℕ, zero, suc, List, [], ◌∷◌, true, false, Option, Some}
+use Rattle.std.specs.Prelude.{◌≡◌, ℕ, zero, suc, List, [], ◌∷◌, true, false, Some}
 use Rattle.sg_tree.specs.declared.expr.Op.{Op}
 use Rattle.sg_tree.specs.declared.expr.Rel.{Rel}
-use Rattle.sg_tree.specs.Tree.{Tree, number, quoted, truth, failing, variable, call, display, span, item, minus, negation, chain, compare, no_trees, Argument, plain, arrow, no_arguments, Code, nothing, quit, assign, choose, each, perform, Block, trees, arguments, links, block, arms}
+use Rattle.sg_tree.specs.Tree.{Tree, number, quoted, truth, failing, variable, call, display, span, item, minus, negation, chain, compare, no_trees, Argument, plain, arrow, Code, nothing, quit, assign, choose, each, perform, Block, trees, arguments, links, block, arms}
 use Rattle.sg_token.specs.declared.token.Token.{Token}
 use Rattle.sg_token.specs.declared.token.Token.TheVariants as token
 use Rattle.sg_token.specs.declared.word.Word.TheVariants as word
-use Rattle.sg_token.specs.declared.symbol.Symbol.{Symbol}
 use Rattle.sg_token.specs.declared.symbol.Symbol.TheVariants as symbol
 use Rattle.sg_script.specs.declared.rank.Rank.{Rank}
 use Rattle.sg_script.specs.declared.rank.Rank.TheVariants as rank

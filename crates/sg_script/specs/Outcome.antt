@@ -1,5 +1,5 @@
 -- What a text is read as.
-use Rattle.std.specs.Prelude.{◌≡◌, ℕ, List, Result, Ok, Err}
+use Rattle.std.specs.Prelude.{ℕ, List, Result, Ok, Err}
 use Rattle.sg_token.specs.declared.token.Token.{Token}
 use Rattle.sg_token.specs.declared.token.TokenFault.{TokenFault}
 use Rattle.sg_token.specs.declared.token.TokenFault.TheVariants as token_fault

@@ -1,5 +1,5 @@
 -- What a token says between operands.
-use Rattle.std.specs.Prelude.{ℕ, ◌+◌, ◌<◌, List, [], ◌∷◌, Option, None, Some, ⊤}
+use Rattle.std.specs.Prelude.{ℕ, ◌<◌, List, [], ◌∷◌, Option, None, Some, ⊤}
 use Rattle.sg_tree.specs.declared.expr.Op.{Op}
 use Rattle.sg_tree.specs.declared.expr.Op.TheVariants as op
 use Rattle.sg_tree.specs.declared.expr.Rel.{Rel}

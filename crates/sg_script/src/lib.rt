@@ -14,6 +14,8 @@ mod rank;
 mod reader;
 mod sign;
 mod statement;
+#[cfg(test)]
+mod tests;
 
 pub use fault::ParseFault;
 pub use reader::parse;

@@ -1,17 +1,15 @@
-use Rattle.std.proofs.Common.{◌≡◌, ◌+◌, ◌<◌, ◌≤◌, ◌∷◌, ◌++◌, List, [], map, length, Some, None, refl, sym, ap, ◌∙◌, subst, append_assoc, arith}
+use Rattle.std.proofs.Common.{◌≡◌, ◌+◌, ◌∷◌, ◌++◌, List, [], map, sym, ap, ◌∙◌, subst, append_assoc, arith}
 use Rattle.std.specs.Prelude.{option_map}
 use Rattle.std.proofs.lemmas.List.{map-append}
 use Rattle.sg_token.specs.declared.symbol.Symbol.TheVariants as symbol
 use Rattle.sg_token.specs.declared.token.Token.TheVariants as token
-use Rattle.sg_token.specs.declared.word.Word.TheVariants as word
 use Rattle.sg_tree.specs.declared.expr.Op.{Op}
 use Rattle.sg_tree.specs.declared.expr.Expr.{Expr}
-use Rattle.sg_tree.specs.Tree.{Tree, Argument, plain, arrow, variable, call, display, arguments, trees}
+use Rattle.sg_tree.specs.Tree.{Tree, Argument, arrow, variable, call, display, arguments, trees}
 use Rattle.sg_tree.specs.TreeView.{tree_of, argument_of}
 use Rattle.sg_tree.proofs.ExpressionLevels.{view-Plain, view-Arrow, view-Var}
 use Rattle.sg_script.specs.declared.rank.Rank.TheVariants as rank
 use Rattle.sg_script.specs.Grammar.{Chain, Linked, Operand, Comparison, Item, Indices, Atom, Entries, Given, MoreGiven, OneGiven}
-use Rattle.sg_script.specs.Literals.{literal_of}
 use Rattle.sg_script.specs.Reading.{Reads, Found, Nothing, Onward, Closed, Always, Named, Bracketed, Listed, EndsGiven}
 use Rattle.sg_script.specs.Signs.{StopsAt, level}
 use Rattle.sg_script.proofs.OnwardLemmas.{onward-then, onward-nothing}

@@ -1,6 +1,4 @@
-use Rattle.std.proofs.Common.{◌≡◌, ℕ, ◌+◌, ◌*◌, ◌<◌, ◌≤◌, ◌++◌, List, map, length}
-use Rattle.sg_token.specs.declared.token.Token.TheVariants as token
-use Rattle.sg_token.specs.declared.symbol.Symbol.TheVariants as symbol
+use Rattle.std.proofs.Common.{◌≡◌, ◌+◌, ◌*◌, ◌≤◌, ◌++◌, List, map, length}
 use Rattle.sg_tree.specs.Tree.{Tree, Argument}
 use Rattle.sg_tree.specs.TreeView.{tree_of, argument_of}
 use Rattle.sg_script.specs.Grammar.{Operand, Atom, Linked, Indices, Entries, MoreGiven}

@@ -1,5 +1,4 @@
 use Rattle.sg_script.proofs.OutcomeLemmas.{one-outcome}
-use Rattle.sg_script.proofs.WellFormedLemmas.{good-statement}
 use Rattle.sg_script.proofs.laws.one_outcome.Goals as goal
 
 pub returns : goal.returns

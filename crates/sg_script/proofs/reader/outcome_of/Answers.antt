@@ -1,4 +1,4 @@
-use Rattle.std.proofs.Common.{◌≡◌, Err, sym, subst}
+use Rattle.std.proofs.Common.{Err, sym, subst}
 use Rattle.sg_tree.specs.TreeView.{code_of}
 use Rattle.sg_script.specs.Depth.{IsDeep}
 use Rattle.sg_script.specs.Grammar.{IsStatement}

@@ -1,4 +1,4 @@
-use Rattle.std.proofs.Common.{◌≡◌, List, [], ◌∷◌, sym, ap, ◌∙◌, subst}
+use Rattle.std.proofs.Common.{◌≡◌, [], ◌∷◌, sym, ap, ◌∙◌, subst}
 use Rattle.sg_token.specs.declared.symbol.Symbol.TheVariants as symbol
 use Rattle.sg_token.specs.declared.token.Token.TheVariants as token
 use Rattle.sg_token.specs.declared.word.Word.TheVariants as word

@@ -1,9 +1,7 @@
 use Rattle.std.proofs.Common.{ap, ◌∙◌, arith}
 use Rattle.sg_token.specs.declared.symbol.Symbol.TheVariants as symbol
 use Rattle.sg_token.specs.declared.token.Token.TheVariants as token
-use Rattle.sg_token.specs.declared.word.Word.TheVariants as word
 use Rattle.sg_script.specs.Grammar.{times}
-use Rattle.sg_script.proofs.OnwardLemmas.{onward-begin}
 use Rattle.sg_script.proofs.SignLemmas.{times-more}
 use Rattle.sg_script.proofs.sign.count_minus.Goals as goal
 

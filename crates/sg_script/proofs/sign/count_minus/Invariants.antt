@@ -1,8 +1,6 @@
-use Rattle.std.proofs.Common.{◌≡◌, ◌+◌, ◌≤◌, length, List}
+use Rattle.std.proofs.Common.{◌≡◌, ◌+◌, ◌≤◌, length}
 use Rattle.sg_token.specs.declared.symbol.Symbol.TheVariants as symbol
-use Rattle.sg_token.specs.declared.token.Token.{Token}
 use Rattle.sg_token.specs.declared.token.Token.TheVariants as token
-use Rattle.sg_token.specs.declared.word.Word.TheVariants as word
 use Rattle.sg_script.specs.Grammar.{times}
 use Rattle.sg_script.proofs.sign.count_minus.Given as goal
 

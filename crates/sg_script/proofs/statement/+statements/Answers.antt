@@ -1,11 +1,11 @@
-use Rattle.std.proofs.Common.{◌≡◌, ◌≤◌, ◌∷◌, ◌++◌, List, [], map, length, true, false, refl, sym, ap, ◌∙◌, subst, append_assoc, arith, Vec, Global}
+use Rattle.std.proofs.Common.{◌≡◌, ◌∷◌, ◌++◌, List, [], map, true, false, sym, ap, ◌∙◌, subst, append_assoc, arith, Vec, Global}
 use Rattle.std.proofs.lemmas.List.{map-append}
 use Rattle.sg_token.specs.declared.symbol.Symbol.TheVariants as symbol
 use Rattle.sg_token.specs.declared.token.Token.TheVariants as token
 use Rattle.sg_token.specs.declared.word.Word.TheVariants as word
 use Rattle.sg_tree.specs.declared.expr.Expr.{Expr}
 use Rattle.sg_tree.specs.declared.stmt.Stmt.{Stmt}
-use Rattle.sg_tree.specs.Tree.{Tree, Code, Block, assign, choose, each, perform, arms, block}
+use Rattle.sg_tree.specs.Tree.{Tree, Code, Block, assign, choose, each, arms, block}
 use Rattle.sg_tree.specs.TreeView.{tree_of, code_of, block_of}
 use Rattle.sg_tree.proofs.StatementLevels.{view-Empty, view-Assign, view-If, view-For, view-Do}
 use Rattle.sg_script.specs.Bodies.{ends_body, EndsBody, EndsChoice, Choice, Repetition}
