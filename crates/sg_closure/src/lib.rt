@@ -1,4 +1,4 @@
-//! Arf semigroups, those of maximal embedding dimension and saturated ones, and the least of each kind above one.
+//! Arf semigroups, those of maximal embedding dimension and saturated ones, and the least of each kind above a semigroup.
 //!
 //! A semigroup is seen as its minimal list of generators. The one contract that the layer above uses: each test answers
 //! its definition over all members, and each closure is the least numerical semigroup of its kind that holds all of the
