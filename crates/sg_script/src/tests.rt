@@ -144,3 +144,13 @@ fn trees(rt: HostRuntime) -> Result<(), Fail> {
     assert!(rt; matches!(&choice, Stmt::If(arms, other) if arms.len() == 2 && other.len() == 1));
     Ok(())
 }
+
+#[test]
+fn a_kilobyte_of_odd_bytes_is_no_statement(rt: HostRuntime) -> Result<(), Fail> {
+    let mut text = Vec::with_capacity(rt.alloc(), 1024)?;
+    for place in 0..1024u32 {
+        text.push((place * 7 % 256) as u8)?;
+    }
+    assert!(rt; matches!(parse(rt.alloc(), &text), Err(ParseFault::Syntax)));
+    Ok(())
+}
