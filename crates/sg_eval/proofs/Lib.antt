@@ -1,1 +1,10 @@
 pub mod OneEnd
+pub mod Runs
+pub mod Evaluating
+pub mod Later
+pub mod Measured
+pub mod Placed
+pub mod Deciding
+pub mod Steps
+pub mod GivenSteps
+pub mod Spanned

@@ -1,6 +1,14 @@
 pub mod Vars
+pub mod State
+pub mod KnownFacts
+pub mod Machine
 pub mod Queries
 pub mod Process
+pub mod Outcomes
+pub mod Truths
+pub mod Entries
 pub mod Expressions
+pub mod Linked
+pub mod Given
 pub mod Statements
 pub mod Laws

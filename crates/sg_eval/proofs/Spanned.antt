@@ -1,0 +1,109 @@
+-- Lists of integers in a row.
+use Rattle.std.proofs.Common.{◌≡◌, ◌<◌, ◌≤◌, ◌+◌, ◌-◌, ◌^◌, ℕ, zero, suc, ℤ, pos, ◌+ℤ◌, ◌-ℤ◌, min, max, List, [], ◌∷◌, ◌++◌, Option, Some, None, Ok, Err, Vec, Global, slice_get, inl, inr, refl, ap, sym, ◌∙◌, subst, arith}
+use Rattle.std.proofs.Math.IntN.{+ℤ_assoc, +ℤ_idr}
+use Rattle.sg_value.specs.Data.{Data, int, list, Items, none, item, items_map, data_map, depth_of_all, weight_of_all, EachSemigroup, EachSemigroupOfAll}
+use Rattle.sg_value.specs.Plain.{AllKnown, IsKnown, contents, contents_of_all, plain, generators_at}
+use Rattle.sg_value.specs.declared.value.Value.{Value}
+use Rattle.sg_value.specs.declared.value.Value.TheVariants as value
+use Rattle.sg_calls.specs.Order.{Reply, fits, IsReply, Delivers}
+use Rattle.sg_calls.specs.Kinds.{as_integer, given, answers}
+use Rattle.sg_calls.specs.Words.{join}
+use Rattle.sg_calls.specs.declared.fault.Fault.{Fault}
+use Rattle.sg_calls.specs.declared.fault.Fault.TheVariants.{WrongType, TooLarge}
+use Rattle.sg_calls.specs.declared.fault.CallFault.TheVariants.{Script}
+use Rattle.sg_calls.proofs.Replying.{as_integer-plain, delivered, answers_pass}
+use Rattle.sg_eval.specs.Entries.{integers_in}
+use Rattle.sg_eval.specs.Expressions.{ask}
+use Rattle.sg_eval.specs.Outcomes.{Evaluates}
+use Rattle.sg_eval.specs.Queries.{spans, span_of, span_count, integers_from}
+use Rattle.sg_eval.specs.State.{State}
+use Rattle.sg_eval.proofs.Evaluating.{keeps_all}
+use Rattle.sg_eval.proofs.Measured.{contents-List}
+
+-- one integer more
+pub integers_in-more : {H : Type 0} (z : ℤ) (n : ℕ) → join (integers_in {H = H} z n) (item (int (z +ℤ pos n)) none) ≡ integers_in z (suc n)
+integers_in-more z zero = ap (λ y. item (int y) none) (+ℤ_idr z)
+integers_in-more z (suc n) =
+    let next : 1 + n ≡ suc n = omega arith in
+    let e : (z +ℤ pos 1) +ℤ pos n ≡ z +ℤ pos (suc n) = +ℤ_assoc z (pos 1) (pos n) ∙ ap (λ k. z +ℤ pos k) next in
+    ap (item (int z)) (ap (λ y. join (integers_in (z +ℤ pos 1) n) (item (int y) none)) (sym e) ∙ integers_in-more (z +ℤ pos 1) n)
+
+pub contents-more : (vs : List Value) (v : Value) → contents_of_all (vs ++ v ∷ []) ≡ join (contents_of_all vs) (item (contents v) none)
+contents-more [] v = refl
+contents-more (u ∷ vs) v = ap (item (contents u)) (contents-more vs v)
+
+pub integers_pushed : (vs ws : List Value) (v : Value) (z : ℤ) (i : ℕ) → ws ≡ vs ++ v ∷ [] → contents v ≡ int (z +ℤ pos i) → contents_of_all vs ≡ integers_in z i → contents_of_all ws ≡ integers_in z (i + 1)
+integers_pushed vs ws v z i is seen so_far =
+    let next : suc i ≡ i + 1 = omega arith in
+    ap contents_of_all is ∙ (contents-more vs v ∙ (ap (λ d. join (contents_of_all vs) (item d none)) seen ∙ (ap (λ ds. join ds (item (int (z +ℤ pos i)) none)) so_far ∙ (integers_in-more z i ∙ ap (integers_in z) next))))
+
+integers_map : {H : Type 0} (f : H → List ℕ) (z : ℤ) (n : ℕ) → items_map f (integers_in z n) ≡ integers_from z n
+integers_map f z zero = refl
+integers_map f z (suc n) = ap (item (int z)) (integers_map f (z +ℤ pos 1) n)
+
+integers_known : {H : Type 0} (P : H → Type 0) (z : ℤ) (n : ℕ) → EachSemigroupOfAll P (integers_in z n)
+integers_known P z zero = tt
+integers_known P z (suc n) = (tt, integers_known P (z +ℤ pos 1) n)
+
+integers_weight : (z : ℤ) (n : ℕ) → weight_of_all (integers_from z n) ≡ n
+integers_weight z zero = refl
+integers_weight z (suc n) = let e : weight_of_all (integers_from (z +ℤ pos 1) n) ≡ n = integers_weight (z +ℤ pos 1) n in omega (arith, e)
+
+integers_depth : (z : ℤ) (n : ℕ) → depth_of_all (integers_from z n) ≡ 0
+integers_depth z zero = refl
+integers_depth z (suc n) = ap (max 0) (integers_depth (z +ℤ pos 1) n)
+
+module _ (x : ℤ) (k : ℕ) where
+  spanned_as : (r : Reply) → Delivers (list (integers_from x k)) r → IsReply (fits (answers (λ d. d ≡ list (integers_from x k)))) r
+  spanned_as r h = delivered (answers (λ d. d ≡ list (integers_from x k))) (list (integers_from x k)) r (answers_pass (λ d. d ≡ list (integers_from x k))) refl h
+
+  spanned_large : 4194304 ≤ k → IsReply (fits (answers (λ d. d ≡ list (integers_from x k)))) (Err TooLarge)
+  spanned_large heavy =
+      let e = integers_depth x k in
+      let w = integers_weight x k in
+      spanned_as (Err TooLarge) (inr ((λ f. f tt), inr ((λ deep. absurd (omega (arith, e, deep))), inl (omega (arith, w, heavy), refl))))
+
+  spanned_fine : k < 4194304 → IsReply (fits (answers (λ d. d ≡ list (integers_from x k)))) (Ok (list (integers_from x k)))
+  spanned_fine light =
+      let e = integers_depth x k in
+      let w = integers_weight x k in
+      spanned_as (Ok (list (integers_from x k))) (inr ((λ f. f tt), inr ((λ deep. absurd (omega (arith, e, deep))), inr ((λ heavy. absurd (omega (arith, w, light, heavy))), refl))))
+
+integer_seen : (names : ℕ → Option (List ℕ)) (v : Value) (o : Option ℤ) → as_integer (contents v) ≡ o → as_integer (plain names v) ≡ o
+integer_seen names v o is = as_integer-plain (generators_at names) (contents v) ∙ is
+
+refused_as : (a b : Value) (s : State) (e : Fault) → ((names : ℕ → Option (List ℕ)) → IsReply (span_of (plain names a) (plain names b)) (Err e)) → Evaluates plain AllKnown (Err (Script e)) s s (λ names. ask (spans (plain names a) (plain names b)))
+refused_as a b s e h = record { keeps = keeps_all s.names; variables = refl; parameters = tt; is_known = tt; gives = λ final later. (Err e, h (slice_get final), (refl, refl, refl)) }
+
+pub span_low : (a b : Value) (s : State) → as_integer (contents a) ≡ None → Evaluates plain AllKnown (Err (Script WrongType)) s s (λ names. ask (spans (plain names a) (plain names b)))
+span_low a b s is = refused_as a b s WrongType (λ names.
+    subst (λ o. IsReply (given o (λ x. given (as_integer (plain names b)) (λ y. fits (answers (λ d. d ≡ list (integers_from x (span_count (y -ℤ x)))))))) (Err WrongType)) (sym (integer_seen names a None is)) refl)
+
+pub span_high : (a b : Value) (s : State) (x : ℤ) → as_integer (contents a) ≡ Some x → as_integer (contents b) ≡ None → Evaluates plain AllKnown (Err (Script WrongType)) s s (λ names. ask (spans (plain names a) (plain names b)))
+span_high a b s x is_a is_b = refused_as a b s WrongType (λ names.
+    subst (λ o. IsReply (given o (λ z. given (as_integer (plain names b)) (λ y. fits (answers (λ d. d ≡ list (integers_from z (span_count (y -ℤ z)))))))) (Err WrongType)) (sym (integer_seen names a (Some x) is_a))
+    (subst (λ o. IsReply (given o (λ y. fits (answers (λ d. d ≡ list (integers_from x (span_count (y -ℤ x))))))) (Err WrongType)) (sym (integer_seen names b None is_b)) refl))
+
+span_seen : (a b : Value) (x y : ℤ) (names : ℕ → Option (List ℕ)) (r : Reply) → as_integer (contents a) ≡ Some x → as_integer (contents b) ≡ Some y
+    → IsReply (fits (answers (λ d. d ≡ list (integers_from x (span_count (y -ℤ x)))))) r → IsReply (span_of (plain names a) (plain names b)) r
+span_seen a b x y names r is_a is_b h =
+    subst (λ o. IsReply (given o (λ z. given (as_integer (plain names b)) (λ y. fits (answers (λ d. d ≡ list (integers_from z (span_count (y -ℤ z)))))))) r) (sym (integer_seen names a (Some x) is_a))
+    (subst (λ o. IsReply (given o (λ y. fits (answers (λ d. d ≡ list (integers_from x (span_count (y -ℤ x))))))) r) (sym (integer_seen names b (Some y) is_b)) h)
+
+module _ (a b : Value) (s : State) (x y : ℤ) (is_a : as_integer (contents a) ≡ Some x) (is_b : as_integer (contents b) ≡ Some y) (n : ℕ) (count : n ≡ min (span_count (y -ℤ x)) (2 ^ 64 - 1)) where
+  pub span_large : 4194304 ≤ n → Evaluates plain AllKnown (Err (Script TooLarge)) s s (λ names. ask (spans (plain names a) (plain names b)))
+  span_large heavy = refused_as a b s TooLarge (λ names. span_seen a b x y names (Err TooLarge) is_a is_b (spanned_large x (span_count (y -ℤ x)) (omega (arith, count, heavy))))
+
+  pub span_fine : (vs : Vec Value Global) → n < 4194304 → contents_of_all vs.items ≡ integers_in x n → Evaluates plain AllKnown (Ok (value.List vs)) s s (λ names. ask (spans (plain names a) (plain names b)))
+  span_fine vs light is =
+      let k = span_count (y -ℤ x) in
+      let same : n ≡ k = omega (arith, count, light) in
+      let seen : contents (value.List vs) ≡ list (integers_in x k) = contents-List vs ∙ ap list (is ∙ ap (integers_in x) same) in
+      record {
+        keeps = keeps_all s.names;
+        variables = refl;
+        parameters = refl;
+        is_known = subst (EachSemigroup (IsKnown (slice_get s.names))) (sym seen) (integers_known (IsKnown (slice_get s.names)) x k);
+        gives = λ final later. (Ok (list (integers_from x k)), span_seen a b x y (slice_get final) (Ok (list (integers_from x k))) is_a is_b (spanned_fine x k (omega (arith, same, light))),
+            (ap Ok (ap (data_map (generators_at (slice_get final))) seen ∙ ap list (integers_map (generators_at (slice_get final)) x k)), refl, refl));
+      }

@@ -1,0 +1,23 @@
+-- That the values of variables are known is a proposition.
+use Rattle.std.specs.Prelude.{ℕ, List, slice_get}
+use Rattle.std.proofs.Props.{props}
+use Rattle.sg_value.specs.Data.{Data, int, truth, text, list, fail, semigroup, Items, none, item, EachSemigroup, EachSemigroupOfAll}
+use Rattle.sg_value.specs.Plain.{Named, IsKnown, contents}
+use Rattle.sg_eval.specs.State.{AreKnown}
+use Rattle.sg_eval.specs.declared.variable.Variable.{Variable}
+
+mutual
+  each_known-prop : (names : Named) (d : Data ℕ) → IsProp (EachSemigroup (IsKnown names) d)
+  each_known-prop names (int z) = Prim.hlevel props
+  each_known-prop names (truth b) = Prim.hlevel props
+  each_known-prop names (text bs) = Prim.hlevel props
+  each_known-prop names (list ds) = all_known-prop names ds
+  each_known-prop names fail = Prim.hlevel props
+  each_known-prop names (semigroup i) = Prim.hlevel props
+
+  all_known-prop : (names : Named) (ds : Items ℕ) → IsProp (EachSemigroupOfAll (IsKnown names) ds)
+  all_known-prop names none = Prim.hlevel props
+  all_known-prop names (item d ds) = Prim.hlevel (props, each_known-prop names d, all_known-prop names ds)
+
+pub are_known-prop : (names : List (List ℕ)) (vs ws : List Variable) → IsProp (AreKnown names vs × AreKnown names ws)
+are_known-prop names vs ws = Prim.hlevel (props, each_known-prop)

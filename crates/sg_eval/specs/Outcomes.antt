@@ -1,0 +1,34 @@
+-- What calls gave and did.
+use Rattle.std.specs.Prelude.{◌≡◌, ℕ, List, [], Option, Result, Ok, Err, IfOk, OnOk, slice_get, Vec, ⊤}
+use Rattle.std.specs.Global.{Global}
+use Rattle.sg_value.specs.Data.{Items}
+use Rattle.sg_value.specs.declared.value.Value.{Value}
+use Rattle.sg_value.specs.Plain.{Named, AllKnown, AllKnownIn, plain, plain_of_all}
+use Rattle.sg_store.specs.Interned.{Keeps}
+use Rattle.sg_calls.specs.declared.fault.CallFault.{CallFault}
+use Rattle.sg_calls.specs.declared.fault.CallFault.TheVariants.{Script, Memory}
+use Rattle.sg_eval.specs.Process.{Process, Runs}
+use Rattle.sg_eval.specs.State.{State}
+use Rattle.sg_eval.specs.Vars.{Vars}
+
+-- values by their plain values
+abbrev pub plain_in : Named → Vec Value Global → Items (List ℕ)
+plain_in names vs = plain_of_all names vs.items
+
+abbrev pub known_in : Named → Vec Value Global → Type 0
+known_in names vs = AllKnownIn names vs.items
+
+-- a call gave what the process gives, which changes no variable and writes nothing
+abbrev pub Gives : {X A : Type 0} → (X → A) → Result X CallFault → Process A → Vars → Type 0
+Gives view (Ok x) p vars = Runs p vars (Ok (view x)) vars []
+Gives view (Err (Script e)) p vars = Runs p vars (Err e) vars []
+Gives view (Err (Memory m)) p vars = ⊤
+
+-- a call over a machine gave what the process gives, also over each later store; its value is known, and known
+-- semigroups, variables and parameters stayed
+pub record Evaluates {X A : Type 0} (view : Named → X → A) (known : Named → X → Type 0) (r : Result X CallFault) (old new : State) (p : Named → Process A) : Type 0 where
+  pub keeps : Keeps old.names new.names
+  pub variables : new.variables ≡ old.variables
+  pub parameters : OnOk r (new.parameters ≡ old.parameters)
+  pub is_known : IfOk r (known (slice_get new.names))
+  pub gives : (final : List (List ℕ)) → Keeps new.names final → Gives (view (slice_get final)) r (p (slice_get final)) old.variables

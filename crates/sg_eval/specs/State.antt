@@ -1,0 +1,19 @@
+-- What a machine holds, as contracts see it.
+use Rattle.std.specs.Prelude.{ℕ, List, map, All, slice_get}
+use Rattle.sg_value.specs.Plain.{Named, plain, AllKnown}
+use Rattle.sg_eval.specs.Vars.{Vars}
+use Rattle.sg_eval.specs.declared.variable.Variable.{Variable}
+
+-- each name with its plain value
+abbrev pub vars_of : List (List ℕ) → List Variable → Vars
+vars_of names vs = map (λ v. (v.name, plain (slice_get names) v.value)) vs
+
+-- each semigroup in the values is known
+abbrev pub AreKnown : List (List ℕ) → List Variable → Type 0
+AreKnown names vs = All (λ v. AllKnown (slice_get names) v.value) vs
+
+-- the minimal lists of the semigroups, the variables, and the parameters of the arrows around, the nearest first
+pub record State : Type 0 where
+  pub names : List (List ℕ)
+  pub variables : Vars
+  pub parameters : Vars
