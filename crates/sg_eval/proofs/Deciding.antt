@@ -1,8 +1,8 @@
 -- Truth values, and signs before operands.
-use Rattle.std.proofs.Common.{◌≡◌, ◌+◌, ◌-◌, ◌<◌, ℕ, zero, suc, Bool, true, false, not, List, Result, Ok, Err, IsErrAnd, slice_get, refl, ap, sym, ◌∙◌, subst, arith, rules}
+use Rattle.std.proofs.Common.{◌≡◌, ◌+◌, ℕ, zero, suc, Bool, true, false, not, Result, Ok, Err, IsErrAnd, slice_get, refl, ap, sym, ◌∙◌, subst, arith}
 use Rattle.std.proofs.Math.Path.{fun_ext}
-use Rattle.sg_value.specs.Data.{Data, int, truth, text, list, fail, semigroup, data_map, EachSemigroup}
-use Rattle.sg_value.specs.Plain.{Named, AllKnown, IsKnown, contents, plain, generators_at}
+use Rattle.sg_value.specs.Data.{int, truth, text, list, fail, semigroup, data_map, EachSemigroup}
+use Rattle.sg_value.specs.Plain.{Named, AllKnown, IsKnown, plain, generators_at}
 use Rattle.sg_value.specs.declared.value.Value.{Value}
 use Rattle.sg_value.specs.declared.value.Value.TheVariants as value
 use Rattle.sg_calls.specs.Order.{Plain}
@@ -51,7 +51,7 @@ module _ {Y B : Type 0} (view : Named → Y → B) (known : Named → Y → Type
 pub evaluates_truth : (b c : Bool) (s : State) → b ≡ c → Evaluates plain AllKnown (Ok (value.Bool b)) s s (λ names. gives (truth c))
 evaluates_truth b c s same =
     evaluates_gives plain AllKnown (value.Bool b) s (λ names. truth c) (subst (EachSemigroup (IsKnown (slice_get s.names))) (sym (contents-Bool b)) tt)
-      (λ final later. ap (data_map (generators_at (slice_get final))) (contents-Bool b) ∙ ap truth same)
+    (λ final later. ap (data_map (generators_at (slice_get final))) (contents-Bool b) ∙ ap truth same)
 
 not_not : (b : Bool) → not (not b) ≡ b
 not_not true = refl

@@ -3,13 +3,12 @@ use Rattle.std.proofs.Common.{◌≡◌, ℕ, List, [], Result, Ok, Err, OnOk, I
 use Rattle.std.specs.declared.alloc.AllocError.{AllocError}
 use Rattle.std.proofs.Math.Path.{fun_ext}
 use Rattle.std.proofs.lemmas.Result.{err_from_is_err_and}
-use Rattle.sg_value.specs.Data.{Data, Items, list, EachSemigroup, EachSemigroupOfAll}
-use Rattle.sg_value.specs.Plain.{Named, AllKnown, AllKnownIn, contents, contents_of_all, plain, plain_of_all, IsKnown}
+use Rattle.sg_value.specs.Data.{Items, list}
+use Rattle.sg_value.specs.Plain.{Named, AllKnown, AllKnownIn, contents, contents_of_all, plain, plain_of_all}
 use Rattle.sg_value.specs.declared.value.Value.{Value}
 use Rattle.sg_store.specs.Interned.{Keeps}
 use Rattle.sg_calls.specs.declared.fault.CallFault.{CallFault}
 use Rattle.sg_calls.specs.declared.fault.CallFault.TheVariants.{Script, Memory}
-use Rattle.sg_calls.specs.declared.fault.Fault.{Fault}
 use Rattle.sg_eval.specs.Process.{Process, gives, ◌>>=◌, Runs}
 use Rattle.sg_eval.specs.Outcomes.{Gives, Evaluates}
 use Rattle.sg_value.proofs.OneStore.{data_map-kept}
@@ -42,14 +41,14 @@ pub evaluates_then : {X Y A B : Type 0} (view : Named → X → A) (known : Name
     (x : X) (r : Result Y CallFault) (s s1 s2 : State) (p : Named → Process A) (f : Named → A → Process B)
     → Evaluates view known (Ok x) s s1 p → Evaluates view' known' r s1 s2 (λ names. f names (view names x)) → Evaluates view' known' r s s2 (λ names. p names >>= f names)
 evaluates_then view known view' known' x r s s1 s2 p f h g = record {
-    keeps = keeps_then s.names s1.names s2.names h.keeps g.keeps;
-    variables = g.variables ∙ h.variables;
-    parameters = end_parameters r s.parameters s1.parameters s2.parameters h.parameters g.parameters;
-    is_known = g.is_known;
-    gives = λ final later. gives_then (view' (slice_get final)) (p (slice_get final)) (f (slice_get final)) s.variables (view (slice_get final) x) r
-        (h.gives final (keeps_then s1.names s2.names final g.keeps later))
-        (subst (λ vs. Gives (view' (slice_get final)) r (f (slice_get final) (view (slice_get final) x)) vs) h.variables (g.gives final later));
-  }
+  keeps = keeps_then s.names s1.names s2.names h.keeps g.keeps;
+  variables = g.variables ∙ h.variables;
+  parameters = end_parameters r s.parameters s1.parameters s2.parameters h.parameters g.parameters;
+  is_known = g.is_known;
+  gives = λ final later. gives_then (view' (slice_get final)) (p (slice_get final)) (f (slice_get final)) s.variables (view (slice_get final) x) r
+      (h.gives final (keeps_then s1.names s2.names final g.keeps later))
+      (subst (λ vs. Gives (view' (slice_get final)) r (f (slice_get final) (view (slice_get final) x)) vs) h.variables (g.gives final later));
+}
 
 gives_refused : {X Y A B : Type 0} (view : X → A) (view' : Y → B) (p : Process A) (f : A → Process B) (vars : Vars) (e : CallFault) → Gives view (Err e) p vars → Gives view' (Err e) (p >>= f) vars
 gives_refused view view' p f vars (Script e) g = runs_refused p f vars vars e [] g
@@ -120,12 +119,12 @@ parameters_stay (Err e) a b is = tt
 pub evaluates_reply : (r : Result Value CallFault) (s s1 : State) (c : Case) (q : Named → Query) → Keeps s.names s1.names → s1.variables ≡ s.variables → s1.parameters ≡ s.parameters
     → ((final : List (List ℕ)) → Keeps s1.names final → (t : Reply) → IsReply c t → IsAnswer (q (slice_get final)) t) → Replies r s1.names c → Evaluates plain AllKnown r s s1 (λ names. ask (q names))
 evaluates_reply r s s1 c q keeps variables parameters same h = record {
-    keeps = keeps;
-    variables = variables;
-    parameters = parameters_stay r s.parameters s1.parameters parameters;
-    is_known = reply_known s1.names r c h;
-    gives = λ final later. reply_gives s.names s1.names final r c (q (slice_get final)) s.variables (same final later) h later;
-  }
+  keeps = keeps;
+  variables = variables;
+  parameters = parameters_stay r s.parameters s1.parameters parameters;
+  is_known = reply_known s1.names r c h;
+  gives = λ final later. reply_gives s.names s1.names final r c (q (slice_get final)) s.variables (same final later) h later;
+}
 
 -- of two processes that are the same, over each store
 pub evaluates_as : {Y B : Type 0} (view : Named → Y → B) (known : Named → Y → Type 0) (r : Result Y CallFault) (s s1 : State) (p q : Named → Process B) → ((names : Named) → p names ≡ q names)
@@ -143,23 +142,23 @@ evaluates_on view known view' known' x r s s1 s2 p f h g =
 pub evaluates_later : {Y B : Type 0} (view : Named → Y → B) (known : Named → Y → Type 0) (r : Result Y CallFault) (s s1 : State) (p q : Named → Process B)
     → ((final : List (List ℕ)) → Keeps s.names final → p (slice_get final) ≡ q (slice_get final)) → Evaluates view known r s s1 p → Evaluates view known r s s1 q
 evaluates_later view known r s s1 p q same h = record {
-    keeps = h.keeps;
-    variables = h.variables;
-    parameters = h.parameters;
-    is_known = h.is_known;
-    gives = λ final later. subst (λ k. Gives (view (slice_get final)) r k s.variables) (same final (keeps_then s.names s1.names final h.keeps later)) (h.gives final later);
-  }
+  keeps = h.keeps;
+  variables = h.variables;
+  parameters = h.parameters;
+  is_known = h.is_known;
+  gives = λ final later. subst (λ k. Gives (view (slice_get final)) r k s.variables) (same final (keeps_then s.names s1.names final h.keeps later)) (h.gives final later);
+}
 
 -- a call between the coming and the going of a parameter
 pub evaluates_bound : {Y B : Type 0} (view : Named → Y → B) (known : Named → Y → Type 0) (y : Y) (s s1 s2 s3 : State) (p : Named → Process B)
     → s1.names ≡ s.names → s1.variables ≡ s.variables → Evaluates view known (Ok y) s1 s2 p → s3.names ≡ s2.names → s3.variables ≡ s2.variables → s3.parameters ≡ s.parameters → Evaluates view known (Ok y) s s3 p
 evaluates_bound view known y s s1 s2 s3 p names1 vars1 h names3 vars3 params3 = record {
-    keeps = subst (λ a. Keeps a s3.names) names1 (subst (Keeps s1.names) (sym names3) h.keeps);
-    variables = vars3 ∙ (h.variables ∙ vars1);
-    parameters = params3;
-    is_known = subst (λ a. known (slice_get a) y) (sym names3) h.is_known;
-    gives = λ final later. subst (Gives (view (slice_get final)) (Ok y) (p (slice_get final))) vars1 (h.gives final (subst (λ a. Keeps a final) names3 later));
-  }
+  keeps = subst (λ a. Keeps a s3.names) names1 (subst (Keeps s1.names) (sym names3) h.keeps);
+  variables = vars3 ∙ (h.variables ∙ vars1);
+  parameters = params3;
+  is_known = subst (λ a. known (slice_get a) y) (sym names3) h.is_known;
+  gives = λ final later. subst (Gives (view (slice_get final)) (Ok y) (p (slice_get final))) vars1 (h.gives final (subst (λ a. Keeps a final) names3 later));
+}
 
 -- the same where the call was refused, and the parameter may stay
 pub evaluates_bound_exit : {X Y B : Type 0} (view : Named → X → B) (known : Named → X → Type 0) (view' : Named → Y → B) (known' : Named → Y → Type 0) (r : Result Y CallFault) (e : CallFault) (s s1 s2 : State) (p : Named → Process B)

@@ -1,10 +1,10 @@
 -- Arguments, one after the other.
-use Rattle.std.proofs.Common.{◌≡◌, ◌<◌, ◌+◌, ℕ, suc, List, [], ◌∷◌, ◌++◌, length, get_or, drop, map, Option, Some, None, MatchOption, length-append, Result, Ok, Err, IsErrAnd, Vec, Global, slice_get, refl, ap, sym, ◌∙◌, subst}
+use Rattle.std.proofs.Common.{◌≡◌, ◌<◌, ◌+◌, ℕ, suc, List, [], ◌∷◌, length, get_or, drop, Option, Some, None, MatchOption, length-append, Result, Ok, Err, IsErrAnd, Vec, Global, slice_get, refl, ap, sym, ◌∙◌, subst}
 use Rattle.std.proofs.Math.Path.{fun_ext}
 use Rattle.std.proofs.lemmas.List.{drop_more}
 use Rattle.std.specs.Option.{option_map}
-use Rattle.sg_value.specs.Data.{Data, Items, none, item}
-use Rattle.sg_value.specs.Plain.{Named, AllKnown, AllKnownIn, plain, plain_of_all}
+use Rattle.sg_value.specs.Data.{Items, none, item}
+use Rattle.sg_value.specs.Plain.{Named, plain_of_all}
 use Rattle.sg_value.specs.declared.value.Value.{Value}
 use Rattle.sg_calls.specs.Order.{Plain}
 use Rattle.sg_calls.specs.Words.{join}
@@ -108,19 +108,19 @@ module _ (ps : Vars) (s s1 : State) (a : Argument) (others : Arguments) (o : Opt
       → Evaluates plain_where known_where r s1 s2 (λ names. after_given ps others (plain_where names p)) → Evaluates plain_where known_where r s s2 (λ names. after_given ps (argument a others) (plain_where names o))
   given_then f p r s2 is h g =
       evaluates_as plain_where known_where r s s2 (λ names. eval_argument ps a >>= (λ d. after_given ps others (with_where (plain_where names o) d))) (λ names. after_given ps (argument a others) (plain_where names o))
-        (λ names. given_step ps a others (plain_where names o))
+      (λ names. given_step ps a others (plain_where names o))
       (evaluates_then plain_if known_if plain_where known_where f r s s1 s2 (λ names. eval_argument ps a) (λ names d. after_given ps others (with_where (plain_where names o) d))
-        (subst (λ qs. Evaluates plain_if known_if (Ok f) s s1 (λ names. eval_argument qs a)) same h)
-        (evaluates_as plain_where known_where r s1 s2 (λ names. after_given ps others (plain_where names p)) (λ names. after_given ps others (with_where (plain_where names o) (plain_if names f)))
-          (λ names. ap (after_given ps others) (plain_with names o f p is)) g))
+      (subst (λ qs. Evaluates plain_if known_if (Ok f) s s1 (λ names. eval_argument qs a)) same h)
+      (evaluates_as plain_where known_where r s1 s2 (λ names. after_given ps others (plain_where names p)) (λ names. after_given ps others (with_where (plain_where names o) (plain_if names f)))
+      (λ names. ap (after_given ps others) (plain_with names o f p is)) g))
 
   pub given_exit : (r : Result (Option (Vec Value Global)) CallFault) (e : CallFault) → IsErrAnd r (λ y. y ≡ e) → Evaluates plain_if known_if (Err e) s s1 (λ names. eval_argument s.parameters a)
       → Evaluates plain_where known_where r s s1 (λ names. after_given ps (argument a others) (plain_where names o))
   given_exit r e failed h =
       evaluates_as plain_where known_where r s s1 (λ names. eval_argument ps a >>= (λ d. after_given ps others (with_where (plain_where names o) d))) (λ names. after_given ps (argument a others) (plain_where names o))
-        (λ names. given_step ps a others (plain_where names o))
+      (λ names. given_step ps a others (plain_where names o))
       (evaluates_exit plain_if known_if plain_where known_where r e s s1 (λ names. eval_argument ps a) (λ names d. after_given ps others (with_where (plain_where names o) d)) failed
-        (subst (λ qs. Evaluates plain_if known_if (Err e) s s1 (λ names. eval_argument qs a)) same h))
+      (subst (λ qs. Evaluates plain_if known_if (Err e) s s1 (λ names. eval_argument qs a)) same h))
 
 -- a call goes on where its name and the number of its arguments are right, and is refused where not
 pub call_right : (env : Vars) (name : List ℕ) (gs : List Arg) → checked name (length gs) ≡ None

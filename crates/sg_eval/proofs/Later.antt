@@ -1,5 +1,5 @@
 -- Variables over a later store, and values found by their names.
-use Rattle.std.proofs.Common.{◌≡◌, ◌∷◌, ◌<◌, ℕ, suc, List, [], Option, Some, None, Ok, Err, length, get_or, slice_get, refl, ap, ap₂, sym, ◌∙◌, subst, arith}
+use Rattle.std.proofs.Common.{◌≡◌, ◌∷◌, ℕ, suc, List, [], Option, Some, None, Ok, length, get_or, slice_get, refl, ap, ap₂, sym, ◌∙◌, subst, arith}
 use Rattle.std.specs.Map.{lookup}
 use Rattle.std.specs.Str.{bytes_eq}
 use Rattle.sg_value.specs.Data.{data_map, EachSemigroup}
@@ -11,9 +11,9 @@ use Rattle.sg_calls.specs.Commands.{checked, command_named}
 use Rattle.sg_calls.specs.Words.{entry_count}
 use Rattle.sg_calls.specs.Answers.{Answer, reply_unless, case_of}
 use Rattle.sg_eval.specs.Expressions.{named}
-use Rattle.sg_eval.specs.Process.{Runs, gives}
+use Rattle.sg_eval.specs.Process.{Runs}
 use Rattle.sg_eval.specs.Expressions.{known}
-use Rattle.sg_eval.specs.Outcomes.{Gives, Evaluates}
+use Rattle.sg_eval.specs.Outcomes.{Evaluates}
 use Rattle.sg_eval.specs.State.{State, vars_of, AreKnown}
 use Rattle.sg_eval.specs.declared.variable.Variable.{Variable}
 use Rattle.sg_eval.proofs.Evaluating.{known_later, plain_later, plain_of_all_later, evaluates_gives, keeps_all}
@@ -49,7 +49,7 @@ pub parameter_found : (s : State) (name : List ℕ) (v w : Value) → lookup (by
 parameter_found s name v w found is_known copy =
     subst (λ o. Evaluates plain AllKnown (Ok w) s s (λ names. named o name)) (sym found)
     (evaluates_gives plain AllKnown w s (λ names. plain (slice_get s.names) v) (copy_known (slice_get s.names) v w copy is_known)
-      (λ final later. copy_plain (slice_get final) v w copy ∙ plain_later s.names final v later is_known))
+    (λ final later. copy_plain (slice_get final) v w copy ∙ plain_later s.names final v later is_known))
 
 pub variable_found : (s : State) (name : List ℕ) (v w : Value) → lookup (bytes_eq name) s.parameters ≡ None → lookup (bytes_eq name) s.variables ≡ Some (plain (slice_get s.names) v)
     → AllKnown (slice_get s.names) v → contents w ≡ contents v → Evaluates plain AllKnown (Ok w) s s (λ names. named (lookup (bytes_eq name) s.parameters) name)

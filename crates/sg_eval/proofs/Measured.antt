@@ -1,11 +1,10 @@
 -- Plain lists and the limits on them.
-use Rattle.std.proofs.Common.{◌≡◌, ◌<◌, ◌≤◌, ◌+◌, ◌^◌, ◌-◌, ℕ, zero, suc, min, max, List, [], ◌∷◌, Ok, Err, Vec, Global, slice_get, inl, inr, refl, ap, ap₂, sym, ◌∙◌, subst, arith, rules}
+use Rattle.std.proofs.Common.{◌≡◌, ◌<◌, ◌≤◌, ◌+◌, ◌^◌, ◌-◌, ℕ, suc, min, max, List, Ok, Err, Vec, Global, slice_get, inl, inr, refl, ap, ap₂, sym, ◌∙◌, subst, arith, rules}
 use Rattle.sg_value.specs.Data.{Data, int, truth, text, list, fail, semigroup, Items, none, item, data_map, items_map, depth_of, depth_of_all, weight_of, weight_of_all, EachSemigroup}
-use Rattle.sg_value.specs.Plain.{AllKnown, AllKnownIn, IsKnown, contents, contents_of_all, plain, plain_of_all, generators_at}
+use Rattle.sg_value.specs.Plain.{AllKnownIn, IsKnown, contents, contents_of_all, plain_of_all, generators_at}
 use Rattle.sg_value.specs.declared.value.Value.{Value, the_lemmas as value_lemmas}
 use Rattle.sg_value.specs.declared.value.Value.TheVariants as value
-use Rattle.sg_store.specs.Interned.{Keeps}
-use Rattle.sg_calls.specs.Order.{Plain, Reply, Case, fits, IsReply, Delivers}
+use Rattle.sg_calls.specs.Order.{Reply, Case, fits, IsReply, Delivers}
 use Rattle.sg_calls.specs.Kinds.{answers}
 use Rattle.sg_calls.specs.Answers.{Replies}
 use Rattle.sg_calls.specs.declared.fault.Fault.TheVariants.{Depth, TooLarge}
@@ -70,9 +69,8 @@ module _ (names : List (List ℕ)) (vs : Vec Value Global) where
       → Replies (Ok (value.List vs)) names (listing names vs.items)
   within_limits n k is shallow is_k light is_known =
       let e = depth-listed names vs in
-      let w = weight-listed names vs in
-      (
+      let w = weight-listed names vs in (
         subst (λ d. IsReply (listing names vs.items) (Ok (data_map (generators_at (slice_get names)) d))) (sym (contents-List vs))
-        (replied_as (Ok (list (plain_of_all (slice_get names) vs.items))) (inr ((λ f. f tt), inr ((λ deep. absurd (omega (arith, e, is, shallow, deep))), inr ((λ heavy. absurd (omega (arith, w, is_k, light, heavy))), refl))))),
+            (replied_as (Ok (list (plain_of_all (slice_get names) vs.items))) (inr ((λ f. f tt), inr ((λ deep. absurd (omega (arith, e, is, shallow, deep))), inr ((λ heavy. absurd (omega (arith, w, is_k, light, heavy))), refl))))),
         subst (λ d. EachSemigroup (IsKnown (slice_get names)) d) (sym (contents-List vs)) is_known,
       )

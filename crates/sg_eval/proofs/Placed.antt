@@ -7,14 +7,13 @@ use Rattle.sg_value.specs.declared.value.Value.{Value}
 use Rattle.sg_calls.specs.Kinds.{as_integer, as_list}
 use Rattle.sg_calls.specs.declared.fault.Fault.TheVariants.{IndexOut}
 use Rattle.sg_calls.specs.declared.fault.CallFault.TheVariants.{Script}
-use Rattle.sg_calls.specs.Order.{Reply}
 use Rattle.sg_calls.proofs.Replying.{as_integer-plain}
 use Rattle.sg_eval.specs.Queries.{entry_at, entry_at_integer, found_or_out, item_of, indexes}
 use Rattle.sg_eval.specs.Entries.{entry_from, entry_in, as_natural}
 use Rattle.sg_eval.specs.Expressions.{ask}
 use Rattle.sg_eval.specs.Outcomes.{Evaluates}
 use Rattle.sg_eval.specs.State.{State}
-use Rattle.sg_eval.proofs.Evaluating.{keeps_all, plain_later}
+use Rattle.sg_eval.proofs.Evaluating.{keeps_all}
 use Rattle.sg_eval.proofs.Later.{copy_plain, copy_known}
 
 pub entry_zero : {H : Type 0} (ds : Items H) → entry_from ds 0 ≡ None
@@ -96,9 +95,9 @@ module _ (s : State) (l p : Value) (ds : Items ℕ) (z : ℤ) (is_l : as_list (c
 
   pub index_out : entry_in ds z ≡ None → Evaluates plain AllKnown (Err (Script IndexOut)) s s (λ names. ask (indexes (plain names l) (plain names p)))
   index_out out = record {
-      keeps = keeps_all s.names;
-      variables = refl;
-      parameters = tt;
-      is_known = tt;
-      gives = λ final later. (Err IndexOut, sym (item_as (generators_at (slice_get final)) (contents l) (contents p) ds z None is_l is_p out), (refl, refl, refl));
-    }
+    keeps = keeps_all s.names;
+    variables = refl;
+    parameters = tt;
+    is_known = tt;
+    gives = λ final later. (Err IndexOut, sym (item_as (generators_at (slice_get final)) (contents l) (contents p) ds z None is_l is_p out), (refl, refl, refl));
+  }

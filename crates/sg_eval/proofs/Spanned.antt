@@ -1,7 +1,7 @@
 -- Lists of integers in a row.
 use Rattle.std.proofs.Common.{◌≡◌, ◌<◌, ◌≤◌, ◌+◌, ◌-◌, ◌^◌, ℕ, zero, suc, ℤ, pos, ◌+ℤ◌, ◌-ℤ◌, min, max, List, [], ◌∷◌, ◌++◌, Option, Some, None, Ok, Err, Vec, Global, slice_get, inl, inr, refl, ap, sym, ◌∙◌, subst, arith}
 use Rattle.std.proofs.Math.IntN.{+ℤ_assoc, +ℤ_idr}
-use Rattle.sg_value.specs.Data.{Data, int, list, Items, none, item, items_map, data_map, depth_of_all, weight_of_all, EachSemigroup, EachSemigroupOfAll}
+use Rattle.sg_value.specs.Data.{int, list, none, item, items_map, data_map, depth_of_all, weight_of_all, EachSemigroup, EachSemigroupOfAll}
 use Rattle.sg_value.specs.Plain.{AllKnown, IsKnown, contents, contents_of_all, plain, generators_at}
 use Rattle.sg_value.specs.declared.value.Value.{Value}
 use Rattle.sg_value.specs.declared.value.Value.TheVariants as value
@@ -104,6 +104,9 @@ module _ (a b : Value) (s : State) (x y : ℤ) (is_a : as_integer (contents a) �
         variables = refl;
         parameters = refl;
         is_known = subst (EachSemigroup (IsKnown (slice_get s.names))) (sym seen) (integers_known (IsKnown (slice_get s.names)) x k);
-        gives = λ final later. (Ok (list (integers_from x k)), span_seen a b x y (slice_get final) (Ok (list (integers_from x k))) is_a is_b (spanned_fine x k (omega (arith, same, light))),
-            (ap Ok (ap (data_map (generators_at (slice_get final))) seen ∙ ap list (integers_map (generators_at (slice_get final)) x k)), refl, refl));
+        gives = λ final later. (
+          Ok (list (integers_from x k)),
+          span_seen a b x y (slice_get final) (Ok (list (integers_from x k))) is_a is_b (spanned_fine x k (omega (arith, same, light))),
+          (ap Ok (ap (data_map (generators_at (slice_get final))) seen ∙ ap list (integers_map (generators_at (slice_get final)) x k)), refl, refl),
+        );
       }

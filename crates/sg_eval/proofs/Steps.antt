@@ -1,5 +1,5 @@
 -- Lists of expressions, of places and of links, one after the other.
-use Rattle.std.proofs.Common.{◌≡◌, ◌<◌, ◌+◌, ℕ, List, [], ◌∷◌, ◌++◌, length, get_or, drop, map, Bool, true, false, Some, None, Result, Ok, Err, IsErrAnd, Vec, Global, slice_get, refl, ap, ap₂, sym, ◌∙◌, subst}
+use Rattle.std.proofs.Common.{◌≡◌, ◌<◌, ◌+◌, ℕ, List, [], ◌∷◌, ◌++◌, length, get_or, drop, Bool, true, false, Some, None, Result, Ok, Err, IsErrAnd, Vec, Global, refl, ap, sym, ◌∙◌, subst}
 use Rattle.std.proofs.Math.Path.{fun_ext}
 use Rattle.std.proofs.lemmas.List.{drop_more}
 use Rattle.sg_value.specs.Data.{Data, Items, none, item, truth, int, text, list, fail, semigroup}
@@ -23,7 +23,7 @@ use Rattle.sg_eval.specs.Queries.{indexes, combines}
 use Rattle.sg_eval.specs.State.{State}
 use Rattle.sg_eval.specs.Truths.{itself, no_semigroup}
 use Rattle.sg_eval.specs.Vars.{Vars}
-use Rattle.sg_eval.proofs.Deciding.{assoc, decided_bind}
+use Rattle.sg_eval.proofs.Deciding.{assoc}
 use Rattle.sg_eval.proofs.Evaluating.{evaluates_then, evaluates_exit, evaluates_as}
 
 pub trees_of-drop : (es : List Expr) (i : ℕ) (e : Expr) → i < length es → e ≡ get_or es i e → trees_of (drop i es) ≡ tree (tree_of e) (trees_of (drop (i + 1) es))
@@ -38,17 +38,17 @@ module _ (ps : Vars) (s s1 : State) (t : Tree) (same : s.parameters ≡ ps) wher
       → Evaluates plain AllKnown r s1 s2 (λ names. eval_places ps (plain names w) ts) → Evaluates plain AllKnown r s s2 (λ names. eval_places ps (plain names v) (tree t ts))
   place_then ts v w r s2 h g =
       evaluates_as plain AllKnown r s s2 (λ names. placed ps (plain names v) t >>= (λ e. eval_places ps e ts)) (λ names. eval_places ps (plain names v) (tree t ts))
-        (λ names. assoc (eval ps t) (λ i. ask (indexes (plain names v) i)) (λ e. eval_places ps e ts))
+      (λ names. assoc (eval ps t) (λ i. ask (indexes (plain names v) i)) (λ e. eval_places ps e ts))
       (evaluates_then plain AllKnown plain AllKnown w r s s1 s2 (λ names. placed ps (plain names v) t) (λ names e. eval_places ps e ts)
-        (subst (λ qs. Evaluates plain AllKnown (Ok w) s s1 (λ names. placed qs (plain names v) t)) same h) g)
+      (subst (λ qs. Evaluates plain AllKnown (Ok w) s s1 (λ names. placed qs (plain names v) t)) same h) g)
 
   pub place_exit : (ts : Trees) (v : Value) (r : Result Value CallFault) (e : CallFault) → IsErrAnd r (λ y. y ≡ e) → Evaluates plain AllKnown (Err e) s s1 (λ names. placed s.parameters (plain names v) t)
       → Evaluates plain AllKnown r s s1 (λ names. eval_places ps (plain names v) (tree t ts))
   place_exit ts v r e failed h =
       evaluates_as plain AllKnown r s s1 (λ names. placed ps (plain names v) t >>= (λ d. eval_places ps d ts)) (λ names. eval_places ps (plain names v) (tree t ts))
-        (λ names. assoc (eval ps t) (λ i. ask (indexes (plain names v) i)) (λ d. eval_places ps d ts))
+      (λ names. assoc (eval ps t) (λ i. ask (indexes (plain names v) i)) (λ d. eval_places ps d ts))
       (evaluates_exit plain AllKnown plain AllKnown r e s s1 (λ names. placed ps (plain names v) t) (λ names d. eval_places ps d ts) failed
-        (subst (λ qs. Evaluates plain AllKnown (Err e) s s1 (λ names. placed qs (plain names v) t)) same h))
+      (subst (λ qs. Evaluates plain AllKnown (Err e) s s1 (λ names. placed qs (plain names v) t)) same h))
 
 pub join-one : {H : Type 0} (ds : Items H) (d : Data H) (es : Items H) → join (join ds (item d none)) es ≡ join ds (item d es)
 join-one none d es = refl
@@ -73,19 +73,19 @@ module _ (ps : Vars) (s s1 : State) (t : Tree) (ts : Trees) (vs : List Value) (s
       → Evaluates plain_in known_in r s1 s2 (λ names. after_front ps ts (plain_of_all names ws)) → Evaluates plain_in known_in r s s2 (λ names. after_front ps (tree t ts) (plain_of_all names vs))
   value_then v ws r s2 is h g =
       evaluates_as plain_in known_in r s s2 (λ names. eval ps t >>= (λ d. after_front ps ts (join (plain_of_all names vs) (item d none)))) (λ names. after_front ps (tree t ts) (plain_of_all names vs))
-        (λ names. front_step ps t ts (plain_of_all names vs))
+      (λ names. front_step ps t ts (plain_of_all names vs))
       (evaluates_then plain AllKnown plain_in known_in v r s s1 s2 (λ names. eval ps t) (λ names d. after_front ps ts (join (plain_of_all names vs) (item d none)))
-        (subst (λ qs. Evaluates plain AllKnown (Ok v) s s1 (λ names. eval qs t)) same h)
-        (evaluates_as plain_in known_in r s1 s2 (λ names. after_front ps ts (plain_of_all names ws)) (λ names. after_front ps ts (join (plain_of_all names vs) (item (plain names v) none)))
-          (λ names. ap (after_front ps ts) (ap (plain_of_all names) is ∙ plain_of_all-more names vs v)) g))
+      (subst (λ qs. Evaluates plain AllKnown (Ok v) s s1 (λ names. eval qs t)) same h)
+      (evaluates_as plain_in known_in r s1 s2 (λ names. after_front ps ts (plain_of_all names ws)) (λ names. after_front ps ts (join (plain_of_all names vs) (item (plain names v) none)))
+      (λ names. ap (after_front ps ts) (ap (plain_of_all names) is ∙ plain_of_all-more names vs v)) g))
 
   pub value_exit : (r : Result (Vec Value Global) CallFault) (e : CallFault) → IsErrAnd r (λ y. y ≡ e) → Evaluates plain AllKnown (Err e) s s1 (λ names. eval s.parameters t)
       → Evaluates plain_in known_in r s s1 (λ names. after_front ps (tree t ts) (plain_of_all names vs))
   value_exit r e failed h =
       evaluates_as plain_in known_in r s s1 (λ names. eval ps t >>= (λ d. after_front ps ts (join (plain_of_all names vs) (item d none)))) (λ names. after_front ps (tree t ts) (plain_of_all names vs))
-        (λ names. front_step ps t ts (plain_of_all names vs))
+      (λ names. front_step ps t ts (plain_of_all names vs))
       (evaluates_exit plain AllKnown plain_in known_in r e s s1 (λ names. eval ps t) (λ names d. after_front ps ts (join (plain_of_all names vs) (item d none))) failed
-        (subst (λ qs. Evaluates plain AllKnown (Err e) s s1 (λ names. eval qs t)) same h))
+      (subst (λ qs. Evaluates plain AllKnown (Err e) s s1 (λ names. eval qs t)) same h))
 
 -- what is left of a chain once it is known whether it ends
 abbrev pub unless_ended : Vars → Op → Tree → Links → Plain → Bool → Process Plain
@@ -135,14 +135,14 @@ module _ (ps : Vars) (s : State) (op : Op) (t : Tree) (ls : Links) (v : Value) w
   link_then s1 s2 w r same goes h g =
       link_as r s2 (evaluates_then itself no_semigroup plain AllKnown false r s s s2 (λ names. ends_chain op (plain names v)) (λ names. unless_ended ps op t ls (plain names v)) goes
       (evaluates_then plain AllKnown plain AllKnown w r s s1 s2 (λ names. linked ps op t (plain names v)) (λ names e. eval_links ps e ls)
-        (subst (λ qs. Evaluates plain AllKnown (Ok w) s s1 (λ names. linked qs op t (plain names v))) same h) g))
+      (subst (λ qs. Evaluates plain AllKnown (Ok w) s s1 (λ names. linked qs op t (plain names v))) same h) g))
 
   pub link_exit : (s1 : State) (r : Result Value CallFault) (e : CallFault) → s.parameters ≡ ps → IsErrAnd r (λ y. y ≡ e) → Evaluates itself no_semigroup (Ok false) s s (λ names. ends_chain op (plain names v))
       → Evaluates plain AllKnown (Err e) s s1 (λ names. linked s.parameters op t (plain names v)) → Evaluates plain AllKnown r s s1 (λ names. eval_links ps (plain names v) (link op t ls))
   link_exit s1 r e same failed goes h =
       link_as r s1 (evaluates_then itself no_semigroup plain AllKnown false r s s s1 (λ names. ends_chain op (plain names v)) (λ names. unless_ended ps op t ls (plain names v)) goes
       (evaluates_exit plain AllKnown plain AllKnown r e s s1 (λ names. linked ps op t (plain names v)) (λ names d. eval_links ps d ls) failed
-        (subst (λ qs. Evaluates plain AllKnown (Err e) s s1 (λ names. linked qs op t (plain names v))) same h)))
+      (subst (λ qs. Evaluates plain AllKnown (Err e) s s1 (λ names. linked qs op t (plain names v))) same h)))
 
 pub right_unit : {A : Type 0} (p : Process A) → p >>= (λ a. gives a) ≡ p
 right_unit (gives a) = refl

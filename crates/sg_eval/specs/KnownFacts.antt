@@ -1,8 +1,8 @@
 -- That the values of variables are known is a proposition.
-use Rattle.std.specs.Prelude.{ℕ, List, slice_get}
+use Rattle.std.specs.Prelude.{ℕ, List}
 use Rattle.std.proofs.Props.{props}
 use Rattle.sg_value.specs.Data.{Data, int, truth, text, list, fail, semigroup, Items, none, item, EachSemigroup, EachSemigroupOfAll}
-use Rattle.sg_value.specs.Plain.{Named, IsKnown, contents}
+use Rattle.sg_value.specs.Plain.{Named, IsKnown}
 use Rattle.sg_eval.specs.State.{AreKnown}
 use Rattle.sg_eval.specs.declared.variable.Variable.{Variable}
 

@@ -1,6 +1,6 @@
 -- What a machine holds, as contracts see it.
 use Rattle.std.specs.Prelude.{ℕ, List, map, All, slice_get}
-use Rattle.sg_value.specs.Plain.{Named, plain, AllKnown}
+use Rattle.sg_value.specs.Plain.{plain, AllKnown}
 use Rattle.sg_eval.specs.Vars.{Vars}
 use Rattle.sg_eval.specs.declared.variable.Variable.{Variable}
 

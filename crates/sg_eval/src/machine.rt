@@ -59,7 +59,12 @@ impl Machine {
     }
 
     /// What a command answers.
-    pub fn call(&mut self, alloc: Global, command: &[u8], args: &[Value]) -> Result<Value, CallFault>
+    pub fn call(
+        &mut self,
+        alloc: Global,
+        command: &[u8],
+        args: &[Value],
+    ) -> Result<Value, CallFault>
         requires checked { checked command.now (length args.now) ≡ None }
         requires known { AllKnownIn (slice_get (state_of self.old).names) args.now }
         ensures { Evaluates plain AllKnown result (state_of self.old) (state_of self.new) (λ names. ask (calls command.now (plain_of_all names args.now))) }
@@ -68,7 +73,13 @@ impl Machine {
     }
 
     /// What an operator gives.
-    pub fn combine(&mut self, alloc: Global, op: Operator, a: &Value, b: &Value) -> Result<Value, CallFault>
+    pub fn combine(
+        &mut self,
+        alloc: Global,
+        op: Operator,
+        a: &Value,
+        b: &Value,
+    ) -> Result<Value, CallFault>
         requires left { AllKnown (slice_get (state_of self.old).names) a.now }
         requires right { AllKnown (slice_get (state_of self.old).names) b.now }
         ensures { Evaluates plain AllKnown result (state_of self.old) (state_of self.new) (λ names. ask (combines op (plain names a.now) (plain names b.now))) }

@@ -1,5 +1,5 @@
-use Rattle.std.proofs.Common.{◌≡◌, ◌-◌, suc, Some, None, ap, sym, ◌∙◌, subst, arith}
-use Rattle.sg_value.specs.Plain.{contents, contents_of_all}
+use Rattle.std.proofs.Common.{◌≡◌, ◌-◌, suc, ap, ◌∙◌, arith}
+use Rattle.sg_value.specs.Plain.{contents_of_all}
 use Rattle.sg_eval.specs.Entries.{entry_from}
 use Rattle.sg_eval.proofs.Placed.{entry_zero, entry_past, entry_there}
 use Rattle.sg_eval.proofs.answers.entry_at.Goals as goal

@@ -1,10 +1,10 @@
-use Rattle.std.proofs.Common.{◌≡◌, Some, None, sym, ◌∙◌, rules}
+use Rattle.std.proofs.Common.{◌≡◌, Some, sym, ◌∙◌, rules}
 use Rattle.std.specs.Prelude.{FitsSigned}
 use Rattle.std.specs.Int.{w64}
 use Rattle.sg_value.specs.Plain.{contents_of_all}
 use Rattle.sg_calls.proofs.Signed.{of_bits_right}
 use Rattle.sg_eval.specs.Entries.{as_natural}
-use Rattle.sg_eval.proofs.Placed.{index_found, index_out, entry_natural, entry_negative}
+use Rattle.sg_eval.proofs.Placed.{index_found, index_out, entry_natural}
 use Rattle.sg_eval.proofs.answers.index.Goals as goal
 
 pub returns-in_ok-try_clone-in-Some-entry_at : goal.returns-in_ok-try_clone-in-Some-entry_at
@@ -14,7 +14,7 @@ returns-in_ok-try_clone-in-Some-entry_at c = λ s is_known.
     let fit : FitsSigned w64 z = search rules in
     let natural : as_natural z ≡ Some c.in-Some-natural_of.n = of_bits_right (λ y. as_natural y ≡ Some c.in-Some-natural_of.n) z fit (sym c.in-Some-natural_of.ensures) in
     index_found s c.args.list.now c.args.place.now ds z c.in-Some.ensures (sym c.in-Some-integer_of.ensures)
-      c.in-Some-entry_at.entry.now c.in_ok-try_clone-in-Some-entry_at.field-0 is_known (entry_natural ds z c.in-Some-natural_of.n natural ∙ c.in-Some-entry_at.ensures) c.in_ok-try_clone-in-Some-entry_at.ensures
+    c.in-Some-entry_at.entry.now c.in_ok-try_clone-in-Some-entry_at.field-0 is_known (entry_natural ds z c.in-Some-natural_of.n natural ∙ c.in-Some-entry_at.ensures) c.in_ok-try_clone-in-Some-entry_at.ensures
 
 pub returns-in-None : goal.returns-in-None
 returns-in-None c = λ s is_known.

@@ -1,4 +1,4 @@
-use Rattle.std.proofs.Common.{◌≡◌, ◌<◌, ℕ, List, Result, Ok, Err, Vec, Global, slice_get, refl, sym, subst}
+use Rattle.std.proofs.Common.{◌≡◌, List, Result, Ok, Err, slice_get, refl, sym, subst}
 use Rattle.sg_value.specs.Data.{list}
 use Rattle.sg_value.specs.Plain.{AllKnown, AllKnownIn, plain, plain_of_all}
 use Rattle.sg_value.specs.declared.value.Value.{Value}
@@ -21,7 +21,7 @@ use Rattle.sg_eval.proofs.answers.list_of.Goals as goal
 listed_so : (r : Result Value CallFault) (vs : List Value) (s : State) → AllKnownIn (slice_get s.names) vs → Replies r s.names (listing s.names vs) → Evaluates plain AllKnown r s s (λ names. ask (lists (plain_of_all names vs)))
 listed_so r vs s is_known h =
     evaluates_reply r s s (listing s.names vs) (λ names. lists (plain_of_all names vs)) (keeps_all s.names) refl refl
-      (λ final later t g. subst (λ ds. IsReply (fits (answers (λ d. d ≡ list ds))) t) (sym (plain_of_all_later s.names final vs later is_known)) g) h
+    (λ final later t g. subst (λ ds. IsReply (fits (answers (λ d. d ≡ list ds))) t) (sym (plain_of_all_later s.names final vs later is_known)) g) h
 
 pub returns-then-depth-gt-DEPTH_LIMIT : goal.returns-then-depth-gt-DEPTH_LIMIT
 returns-then-depth-gt-DEPTH_LIMIT c = λ s is_known.
@@ -30,9 +30,9 @@ returns-then-depth-gt-DEPTH_LIMIT c = λ s is_known.
 pub returns-then-weight-gt-WEIGHT_LIMIT : goal.returns-then-weight-gt-WEIGHT_LIMIT
 returns-then-weight-gt-WEIGHT_LIMIT c = λ s is_known.
     listed_so (Err (Script TooLarge)) c.args.values.items s is_known
-      (too_heavy s.names c.args.values c.depth.result c.weight.result c.depth.ensures c.if-depth-gt-DEPTH_LIMIT.false c.weight.ensures c.if-weight-gt-WEIGHT_LIMIT.true)
+    (too_heavy s.names c.args.values c.depth.result c.weight.result c.depth.ensures c.if-depth-gt-DEPTH_LIMIT.false c.weight.ensures c.if-weight-gt-WEIGHT_LIMIT.true)
 
 pub returns : goal.returns
 returns c = λ s is_known.
     listed_so (Ok (value.List c.args.values)) c.args.values.items s is_known
-      (within_limits s.names c.args.values c.depth.result c.weight.result c.depth.ensures c.if-depth-gt-DEPTH_LIMIT.false c.weight.ensures c.if-weight-gt-WEIGHT_LIMIT.false is_known)
+    (within_limits s.names c.args.values c.depth.result c.weight.result c.depth.ensures c.if-depth-gt-DEPTH_LIMIT.false c.weight.ensures c.if-weight-gt-WEIGHT_LIMIT.false is_known)

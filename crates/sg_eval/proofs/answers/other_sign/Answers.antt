@@ -9,4 +9,4 @@ use Rattle.sg_eval.proofs.answers.other_sign.Goals as goal
 pub returns : goal.returns
 returns c = λ s is_known.
     evaluates_reply c.negate.result s s (negation (plain (slice_get s.names) c.args.v.now)) (λ names. negates (plain names c.args.v.now)) (keeps_all s.names) refl refl
-      (λ final later t h. subst (λ d. IsReply (negation d) t) (sym (plain_later s.names final c.args.v.now later is_known)) h) (c.negate.ensures s.names)
+    (λ final later t h. subst (λ d. IsReply (negation d) t) (sym (plain_later s.names final c.args.v.now later is_known)) h) (c.negate.ensures s.names)

@@ -1,4 +1,4 @@
-use Rattle.std.proofs.Common.{◌≡◌, ◌-ℤ◌, ◌-◌, ◌^◌, ℤ, min, sym, rules}
+use Rattle.std.proofs.Common.{◌≡◌, ◌-ℤ◌, ◌-◌, ◌^◌, min, sym, rules}
 use Rattle.std.specs.Prelude.{FitsSigned}
 use Rattle.std.specs.Int.{w64}
 use Rattle.sg_value.specs.Plain.{contents_of_all}

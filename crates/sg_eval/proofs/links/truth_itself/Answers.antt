@@ -12,4 +12,4 @@ returns-in_err-decide c = λ s is_known.
 pub returns : goal.returns
 returns c = λ s is_known.
     decided_then plain AllKnown c.args.v s (λ names b. gives (plain names c.args.v)) s c.in_ok-decide.field-0 (Ok c.args.v) (c.in_ok-decide.ensures s)
-      (evaluates_gives plain AllKnown c.args.v s (λ names. plain names c.args.v) is_known (λ final later. refl))
+    (evaluates_gives plain AllKnown c.args.v s (λ names. plain names c.args.v) is_known (λ final later. refl))

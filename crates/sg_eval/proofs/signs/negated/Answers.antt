@@ -1,4 +1,4 @@
-use Rattle.std.proofs.Common.{◌≡◌, ◌+◌, ◌-◌, suc, Result, Ok, refl, sym, subst, slice_get, arith}
+use Rattle.std.proofs.Common.{◌≡◌, ◌+◌, ◌-◌, suc, Ok, refl, sym, subst, arith}
 use Rattle.sg_value.specs.Plain.{AllKnown, plain}
 use Rattle.sg_eval.specs.Expressions.{negated, ask}
 use Rattle.sg_eval.specs.Outcomes.{Evaluates}
@@ -28,9 +28,11 @@ loop-i-preserved c = λ s is_known.
     let w = c.in_ok-value.value in
     let m = c.args.count - (c.loop-i.i + 1) in
     let more : c.args.count - c.loop-i.i ≡ suc m = omega (arith, c.loop-i-test.true) in
-    let e = c.in_ok-value.ensures s so_far.0 in
-    (e.is_known, λ r h. so_far.1 r (subst (λ n. Evaluates plain AllKnown r s s (λ names. negated n (plain names v))) (sym more)
-    (evaluates_then plain AllKnown plain AllKnown w r s s s (λ names. ask (negates (plain names v))) (λ names. negated m) e h)))
+    let e = c.in_ok-value.ensures s so_far.0 in (
+      e.is_known,
+      λ r h. so_far.1 r (subst (λ n. Evaluates plain AllKnown r s s (λ names. negated n (plain names v))) (sym more)
+          (evaluates_then plain AllKnown plain AllKnown w r s s s (λ names. ask (negates (plain names v))) (λ names. negated m) e h)),
+    )
 
 pub returns : goal.returns
 returns c = λ s is_known.

@@ -1,4 +1,4 @@
-use Rattle.std.proofs.Common.{◌≡◌, ◌+◌, ◌/◌, suc, sym, arith}
+use Rattle.std.proofs.Common.{◌/◌, sym, arith}
 use Rattle.sg_eval.proofs.Deciding.{turned_even, turned_odd}
 use Rattle.sg_eval.proofs.signs.turn.Goals as goal
 

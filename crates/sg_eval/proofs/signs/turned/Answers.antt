@@ -15,4 +15,4 @@ pub returns : goal.returns
 returns c = λ s.
     let b = c.in_ok-decide.field-0 in
     decided_then plain AllKnown c.args.v.now s (λ names d. gives (truth (turned c.args.count d))) s b (Ok (value.Bool c.turn.result)) (c.in_ok-decide.ensures s)
-      (evaluates_truth c.turn.result (turned c.args.count b) s c.turn.ensures)
+    (evaluates_truth c.turn.result (turned c.args.count b) s c.turn.ensures)

@@ -24,5 +24,5 @@ returns c =
     let args = c.args.args.now in
     let name = c.args.command.now in
     evaluates_reply c.answer.result (state_of m) (record { names = b; variables = vars_of b m.variables.items; parameters = vars_of b m.parameters.items }) (case_of (command_named name) (plain_of_all (slice_get a) args)) (λ names. calls name (plain_of_all names args))
-      kept (vars_later a b m.variables.items kept m.known.0) (vars_later a b m.parameters.items kept m.known.1)
-      (λ final later t h. call_answered a final args name t (keeps_then a b final kept later) c.requires.known c.requires.checked h) c.answer.ensures.reply
+    kept (vars_later a b m.variables.items kept m.known.0) (vars_later a b m.parameters.items kept m.known.1)
+    (λ final later t h. call_answered a final args name t (keeps_then a b final kept later) c.requires.known c.requires.checked h) c.answer.ensures.reply

@@ -25,6 +25,6 @@ returns c =
     let y = c.args.b.now in
     let op = c.args.op in
     evaluates_reply c.combine.result (state_of m) (record { names = b; variables = vars_of b m.variables.items; parameters = vars_of b m.parameters.items }) (operation op (plain (slice_get a) x) (plain (slice_get a) y)) (λ names. combines op (plain names x) (plain names y))
-      kept (vars_later a b m.variables.items kept m.known.0) (vars_later a b m.parameters.items kept m.known.1)
-      (λ final later t h. subst (λ d. IsReply (operation op d (plain (slice_get final) y)) t) (sym (plain_later a final x (keeps_then a b final kept later) c.requires.left))
-        (subst (λ d. IsReply (operation op (plain (slice_get a) x) d) t) (sym (plain_later a final y (keeps_then a b final kept later) c.requires.right)) h)) c.combine.ensures.reply
+    kept (vars_later a b m.variables.items kept m.known.0) (vars_later a b m.parameters.items kept m.known.1)
+    (λ final later t h. subst (λ d. IsReply (operation op d (plain (slice_get final) y)) t) (sym (plain_later a final x (keeps_then a b final kept later) c.requires.left))
+    (subst (λ d. IsReply (operation op (plain (slice_get a) x) d) t) (sym (plain_later a final y (keeps_then a b final kept later) c.requires.right)) h)) c.combine.ensures.reply

@@ -21,4 +21,4 @@ returns-in_ok-try_clone-in-Some-find c =
     let absent = subst (λ vs. lookup (bytes_eq name) (vars_of m.store vs) ≡ None) c.deref.ensures.value (c.in_default.ensures.found m.store) in
     let found = subst (λ vs. lookup (bytes_eq name) (vars_of m.store vs) ≡ Some (plain (slice_get m.store) c.in-Some-find.value.now)) c.deref-2.ensures.value (c.in-Some-find.ensures.found m.store) in
     variable_found (state_of m) name c.in-Some-find.value.now c.in_ok-try_clone-in-Some-find.field-0 absent found
-      (c.in-Some-find.ensures.known m.store (subst (AreKnown m.store) (sym c.deref-2.ensures.value) m.known.0)) c.in_ok-try_clone-in-Some-find.ensures
+    (c.in-Some-find.ensures.known m.store (subst (AreKnown m.store) (sym c.deref-2.ensures.value) m.known.0)) c.in_ok-try_clone-in-Some-find.ensures
