@@ -17,3 +17,7 @@ pub mod FitLemmas
 pub mod LeastLemmas
 pub mod TrimLemmas
 pub mod GapLemmas
+pub mod ListingLemmas
+pub mod ModularLemmas
+pub mod FundamentalLemmas
+pub mod HalfLemmas

@@ -3,8 +3,10 @@ pub mod Conditions
 pub mod Classes
 pub mod Entries
 pub mod Fit
+pub mod Fundamental
 pub mod Generators
 pub mod Laws
 pub mod Minimal
+pub mod Modular
 pub mod Relaxation
 pub mod Table

@@ -55,7 +55,7 @@ fn complement(alloc: Global, gaps: &[u64]) -> Result<Vec<u64>, AllocError>
 }
 
 /// The table of ascending gaps.
-fn from_ascending_gaps(alloc: Global, gaps: &[u64]) -> Result<Table, TableFault>
+pub fn from_ascending_gaps(alloc: Global, gaps: &[u64]) -> Result<Table, TableFault>
     requires ascending { IsStrictlyIncreasing gaps.now }
     requires positive { Contains gaps.now 0 → ⊥ }
     ensures generated { IfOk result (λ table. Generates (IsOutside gaps.now) table) }

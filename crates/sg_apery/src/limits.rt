@@ -14,3 +14,9 @@ pub const NARROW_GENERATORS: u64 = 64;
 
 /// The greatest product of the multiplicity and the number of minimal generators of such a semigroup.
 pub const NARROW_PRODUCT: u64 = 1_048_576;
+
+/// The greatest number that is given as a fundamental gap.
+pub const FUNDAMENTAL_GAP_LIMIT: u64 = 16_777_216;
+
+/// The greatest modulus of a modular or proportionally modular semigroup.
+pub const MODULUS_LIMIT: u64 = 16_777_216;

@@ -157,6 +157,16 @@ fn from_closed(alloc: Global, list: &[u64]) -> Result<Table, TableFault>
     from_kunz(alloc, &table)
 }
 
+/// The table of a set that is closed under sums, by its elements up to some number from which on it has no gap.
+pub fn from_members(alloc: Global, list: &[u64]) -> Result<Table, TableFault>
+    requires list { AreSmallElements list.now }
+    requires closed { IsClosedSet (IsInSmall list.now) }
+    ensures generated { IfOk result (λ table. Generates (IsInSmall list.now) table) }
+    ensures refused { IfErr result (IsSizeFault (IsInSmall list.now)) }
+{
+    from_closed(alloc, up_to_conductor(list))
+}
+
 /// The table of ascending small elements.
 pub fn from_ascending(alloc: Global, list: &[u64]) -> Result<Table, TableFault>
     requires { AreSmallElements list.now }

@@ -135,3 +135,69 @@ fn gaps_in_any_order(rt: HostRuntime) -> Result<(), Fail> {
     );
     Ok(())
 }
+
+#[test]
+fn fundamental_gaps_in_any_order(rt: HostRuntime) -> Result<(), Fail> {
+    let table = Table::from_fundamental_gaps(rt.alloc(), &[4])?;
+    assert_eq!(rt; table.generators().as_slice(), [3, 5, 7].as_slice());
+    let again = Table::from_fundamental_gaps(rt.alloc(), &[7, 4, 7])?;
+    assert_eq!(rt; again.generators().as_slice(), [3, 5].as_slice());
+    let naturals = Table::from_fundamental_gaps(rt.alloc(), &[])?;
+    assert_eq!(rt; naturals.generators().as_slice(), [1].as_slice());
+    for wrong in [[9, 9], [0, 4]] {
+        assert!(rt;
+            matches!(
+                Table::from_fundamental_gaps(rt.alloc(), &wrong),
+                Err(TableFault::BadArgument)
+            )
+        );
+    }
+    assert!(rt;
+        matches!(
+            Table::from_fundamental_gaps(rt.alloc(), &[0, 16_777_217]),
+            Err(TableFault::TooLarge)
+        )
+    );
+    Ok(())
+}
+
+#[test]
+fn modular_semigroups(rt: HostRuntime) -> Result<(), Fail> {
+    let table = Table::modular(rt.alloc(), 3, 5)?;
+    assert_eq!(rt; table.generators().as_slice(), [2, 5].as_slice());
+    let proportional = Table::prop_modular(rt.alloc(), 4, 7, 2)?;
+    assert_eq!(rt; proportional.generators().as_slice(), [2, 3].as_slice());
+    let huge = 9_223_372_036_854_775_807;
+    let reduced = Table::modular(rt.alloc(), huge, 11)?;
+    assert_eq!(rt;
+        reduced.generators().as_slice(),
+        [5, 7, 8, 9, 11].as_slice()
+    );
+    let all = Table::prop_modular(rt.alloc(), huge, 11, huge)?;
+    assert_eq!(rt; all.generators().as_slice(), [1].as_slice());
+    assert!(rt;
+        matches!(
+            Table::modular(rt.alloc(), 0, 16_777_217),
+            Err(TableFault::TooLarge)
+        )
+    );
+    assert!(rt;
+        matches!(
+            Table::modular(rt.alloc(), 0, 5),
+            Err(TableFault::BadArgument)
+        )
+    );
+    assert!(rt;
+        matches!(
+            Table::prop_modular(rt.alloc(), 1, 5, 0),
+            Err(TableFault::BadArgument)
+        )
+    );
+    assert!(rt;
+        matches!(
+            Table::modular(rt.alloc(), 2, 16_777_216),
+            Err(TableFault::TooLarge)
+        )
+    );
+    Ok(())
+}

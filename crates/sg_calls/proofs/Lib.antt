@@ -1,8 +1,7 @@
-pub mod Replying
-pub mod Signed
+pub mod OneOrTwo
 pub mod Remainders
-pub mod Entries
-pub mod Integers
 pub mod OneReply
-pub mod Semigroups
-pub mod Constructing
+pub mod SomeReply
+pub mod OneFact
+pub mod SomeFact
+pub mod Kept

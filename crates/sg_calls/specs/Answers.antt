@@ -3,16 +3,16 @@ use Rattle.std.specs.Prelude.{◌≡◌, ℕ, List, Option, Some, None, Result, 
 use Rattle.sg_value.specs.Data.{Data, Items}
 use Rattle.sg_value.specs.Plain.{plain, AllKnown}
 use Rattle.sg_value.specs.declared.value.Value.{Value}
-use Rattle.sg_calls.specs.Order.{Reply, Case, unfit, IsReply}
+use Rattle.sg_rows.specs.Order.{Reply, Case, unfit, IsReply}
 use Rattle.sg_calls.specs.Commands.{checked, command_named}
 use Rattle.sg_calls.specs.Rows.{row}
-use Rattle.sg_calls.specs.Words.{entry_count}
-use Rattle.sg_calls.specs.Kinds.{as_integers}
-use Rattle.sg_calls.specs.declared.fault.Fault.TheVariants.{WrongType}
+use Rattle.sg_rows.specs.Words.{entry_count}
+use Rattle.sg_rows.specs.Kinds.{as_integers}
+use Rattle.sg_rows.specs.declared.fault.Fault.TheVariants.{WrongType}
 use Rattle.sg_calls.specs.declared.command.Command.{Command}
-use Rattle.sg_calls.specs.declared.fault.Fault.{Fault}
-use Rattle.sg_calls.specs.declared.fault.CallFault.{CallFault}
-use Rattle.sg_calls.specs.declared.fault.CallFault.TheVariants.{Script, Memory}
+use Rattle.sg_rows.specs.declared.fault.Fault.{Fault}
+use Rattle.sg_rows.specs.declared.fault.CallFault.{CallFault}
+use Rattle.sg_rows.specs.declared.fault.CallFault.TheVariants.{Script, Memory}
 
 -- what a command, if there is one, says of arguments
 abbrev pub case_of : Option Command → Items (List ℕ) → Case
@@ -26,14 +26,3 @@ reply_unless None args c r = IsReply (case_of c args) r
 -- what a command answers: the fault of its name or of the number of its arguments, else the reply of its row
 abbrev pub Answer : List ℕ → Items (List ℕ) → Reply → Type 0
 Answer name args r = reply_unless (checked name (entry_count args)) args (command_named name) r
-
--- what a call gave is the reply, and each id in it is known
-abbrev pub Replies : Result Value CallFault → List (List ℕ) → Case → Type 0
-Replies (Ok v) store c = IsReply c (Ok (plain (slice_get store) v)) × AllKnown (slice_get store) v
-Replies (Err (Script e)) store c = IsReply c (Err e)
-Replies (Err (Memory e)) store c = ⊤
-
--- the fault of a call that wants a list of integers: it is none, or memory ran out
-abbrev pub IsNoIntegers : {H : Type 0} → Data H → CallFault → Type 0
-IsNoIntegers d (Script e) = (e ≡ WrongType) × (as_integers d ≡ None)
-IsNoIntegers d (Memory e) = ⊤

@@ -1,38 +1,84 @@
 -- The commands: their names, and how many arguments each takes.
-use Rattle.std.specs.Prelude.{ℕ, Bool, nat_eq, nat_le, codes, List, [], ◌∷◌, Option, Some, None, if◌then◌else◌}
+use Rattle.std.specs.Prelude.{ℕ, Bool, nat_eq, nat_le, codes, List, [], ◌∷◌, Option, Some, None, if◌then◌else◌, ◌||◌}
 use Rattle.std.specs.Map.{lookup}
 use Rattle.std.specs.Str.{bytes_eq}
-use Rattle.sg_calls.specs.declared.fault.Fault.{Fault}
-use Rattle.sg_calls.specs.declared.fault.Fault.TheVariants.{UnknownName, WrongCount}
+use Rattle.sg_rows.specs.declared.fault.Fault.{Fault}
+use Rattle.sg_rows.specs.declared.fault.Fault.TheVariants.{UnknownName, WrongCount}
 use Rattle.sg_calls.specs.declared.command.Command.{Command}
 use Rattle.sg_calls.specs.declared.command.Named.{Named}
-use Rattle.sg_calls.specs.declared.command.Command.TheVariants.{FrobeniusNumber, Length, Maximum, Minimum, NumericalSemigroup}
+use Rattle.sg_calls.specs.declared.command.Command.TheVariants.{OfSemigroup, OfList, FromList, Concatenation, Gcd, Intersection, Lcm, NumericalSemigroup, QuotientOfNumericalSemigroup, AperyList, ModularNumericalSemigroup, ProportionallyModularNumericalSemigroup, OfShape}
+use Rattle.sg_calls.specs.declared.semigroup_facts.SemigroupFact.TheVariants as fact
+use Rattle.sg_calls.specs.declared.shape_facts.ShapeFact.TheVariants as shape
+use Rattle.sg_calls.specs.declared.list_facts.ListFact.TheVariants as list_fact
+use Rattle.sg_calls.specs.declared.list_makers.ListMaker.TheVariants as by_list
 
 -- what an entry of a table of names says
 abbrev pub entry_of : Named → List ℕ × Command
-entry_of entry = (entry.name.now, entry.command)
+entry_of entry = (entry.0.now, entry.1)
 
 -- each name with its command
 abbrev pub names : List (List ℕ × Command)
 names =
-    (codes "FrobeniusNumber", FrobeniusNumber)
-    ∷ (codes "Length", Length)
-    ∷ (codes "Maximum", Maximum)
-    ∷ (codes "Minimum", Minimum)
+    (codes "AperyList", AperyList)
+    ∷ (codes "ArfClosure", OfShape shape.ArfClosure)
+    ∷ (codes "Concatenation", Concatenation)
+    ∷ (codes "Conductor", OfSemigroup fact.Conductor)
+    ∷ (codes "DecomposeIntoIrreducibles", OfShape shape.DecomposeIntoIrreducibles)
+    ∷ (codes "EmbeddingDimension", OfSemigroup fact.EmbeddingDimension)
+    ∷ (codes "FrobeniusNumber", OfSemigroup fact.FrobeniusNumber)
+    ∷ (codes "FundamentalGaps", OfSemigroup fact.FundamentalGaps)
+    ∷ (codes "Gaps", OfSemigroup fact.Gaps)
+    ∷ (codes "Gcd", Gcd)
+    ∷ (codes "Genus", OfSemigroup fact.Genus)
+    ∷ (codes "Intersection", Intersection)
+    ∷ (codes "IsArf", OfShape shape.IsArf)
+    ∷ (codes "IsIrreducible", OfShape shape.IsIrreducible)
+    ∷ (codes "IsMED", OfShape shape.IsMED)
+    ∷ (codes "IsPseudoSymmetric", OfShape shape.IsPseudoSymmetric)
+    ∷ (codes "IsSaturated", OfShape shape.IsSaturated)
+    ∷ (codes "IsSymmetric", OfShape shape.IsSymmetric)
+    ∷ (codes "Lcm", Lcm)
+    ∷ (codes "Length", OfList list_fact.Length)
+    ∷ (codes "MEDClosure", OfShape shape.MEDClosure)
+    ∷ (codes "Maximum", OfList list_fact.Maximum)
+    ∷ (codes "MinimalGenerators", OfSemigroup fact.MinimalGenerators)
+    ∷ (codes "Minimum", OfList list_fact.Minimum)
+    ∷ (codes "ModularNumericalSemigroup", ModularNumericalSemigroup)
+    ∷ (codes "Multiplicity", OfSemigroup fact.Multiplicity)
     ∷ (codes "NumericalSemigroup", NumericalSemigroup)
+    ∷ (codes "NumericalSemigroupByAperyList", FromList by_list.AperyList)
+    ∷ (codes "NumericalSemigroupByFundamentalGaps", FromList by_list.FundamentalGaps)
+    ∷ (codes "NumericalSemigroupByGaps", FromList by_list.Gaps)
+    ∷ (codes "NumericalSemigroupBySmallElements", FromList by_list.SmallElements)
+    ∷ (codes "ProportionallyModularNumericalSemigroup", ProportionallyModularNumericalSemigroup)
+    ∷ (codes "PseudoFrobenius", OfSemigroup fact.PseudoFrobenius)
+    ∷ (codes "QuotientOfNumericalSemigroup", QuotientOfNumericalSemigroup)
+    ∷ (codes "SaturatedClosure", OfShape shape.SaturatedClosure)
+    ∷ (codes "SmallElements", OfSemigroup fact.SmallElements)
+    ∷ (codes "SpecialGaps", OfSemigroup fact.SpecialGaps)
+    ∷ (codes "Sum", OfList list_fact.Sum)
+    ∷ (codes "Type", OfSemigroup fact.Type)
     ∷ []
 
 -- the command of a name
-abbrev pub command_named : List ℕ → Option Command
+unfoldable pub command_named : List ℕ → Option Command
 command_named name = lookup (bytes_eq name) names
 
 -- whether a command takes so many arguments
 abbrev pub takes : Command → ℕ → Bool
-takes FrobeniusNumber n = nat_eq n 1
-takes Length n = nat_eq n 1
-takes Maximum n = nat_eq n 1
-takes Minimum n = nat_eq n 1
+takes (FromList m) n = nat_eq n 1
+takes (OfList f) n = nat_eq n 1
+takes (OfSemigroup f) n = nat_eq n 1
+takes (OfShape f) n = nat_eq n 1
+takes AperyList n = nat_eq n 1 || nat_eq n 2
+takes Concatenation n = nat_le 1 n
+takes Gcd n = nat_le 1 n
+takes Intersection n = nat_eq n 2
+takes Lcm n = nat_le 1 n
+takes ModularNumericalSemigroup n = nat_eq n 2
 takes NumericalSemigroup n = nat_le 1 n
+takes ProportionallyModularNumericalSemigroup n = nat_eq n 3
+takes QuotientOfNumericalSemigroup n = nat_eq n 2
 
 -- a command, if there is one, and so many arguments: the fault for which the call is refused
 abbrev pub checked_command : Option Command → ℕ → Option Fault

@@ -1,7 +1,9 @@
-pub mod Faults
+pub mod ShapeFacts
+pub mod Shapes
+pub mod SemigroupFacts
+pub mod ListFacts
+pub mod ListMakers
 pub mod Commands
-pub mod Order
-pub mod Kinds
 pub mod Words
 pub mod Rows
 pub mod Operations

@@ -1,9 +1,11 @@
 -- The rows of the operators.
-use Rattle.std.specs.Prelude.{◌≡◌, ℤ, pos, ◌+ℤ◌, ◌-ℤ◌, ◌*ℤ◌, ◌≤ℤ◌, ◌<ℤ◌}
-use Rattle.sg_value.specs.Data.{int}
-use Rattle.sg_calls.specs.Order.{Plain, Case, unfit, fits}
-use Rattle.sg_calls.specs.Kinds.{given, as_list, as_integer, answers, an_integer, whether}
-use Rattle.sg_calls.specs.Words.{IsRemainder, IsEntry}
+use Rattle.std.specs.Prelude.{◌≡◌, ℕ, ℤ, pos, ◌+ℤ◌, ◌-ℤ◌, ◌*ℤ◌, ◌≤ℤ◌, ◌<ℤ◌, List, Option, Some, None}
+use Rattle.sg_defs.specs.Membership.{IsIntegerMember}
+use Rattle.sg_value.specs.Data.{int, Items}
+use Rattle.sg_rows.specs.Order.{Plain, Case, unfit, fits}
+use Rattle.sg_rows.specs.Kinds.{given, as_list, as_integer, as_semigroup, answers, an_integer, whether}
+use Rattle.sg_calls.specs.Words.{IsRemainder}
+use Rattle.sg_rows.specs.Words.{IsEntry}
 use Rattle.sg_calls.specs.declared.operator.Operator.{Operator}
 use Rattle.sg_calls.specs.declared.operator.Operator.TheVariants.{Plus, Less, Times, Mod, Eq, Ne, Lt, Le, Gt, Ge, Member}
 
@@ -24,11 +26,21 @@ calculation Member x y = unfit
 abbrev pub of_integers : Operator → Plain → Plain → Case
 of_integers op a b = given (as_integer a) (λ x. given (as_integer b) (λ y. calculation op x y))
 
+-- whether an integer is a member of the semigroup
+abbrev pub membership_of : Plain → List ℕ → Case
+membership_of a G = given (as_integer a) (λ x. fits (answers (whether (IsIntegerMember G x))))
+
+-- whether a list has the value as an entry, or a semigroup the integer as a member
+abbrev pub membership : Plain → Option (Items (List ℕ)) → Option (List ℕ) → Case
+membership a (Some ds) o = fits (answers (whether (IsEntry a ds)))
+membership a None (Some G) = membership_of a G
+membership a None None = unfit
+
 -- what the row of an operator says of its operands
 abbrev pub operation : Operator → Plain → Plain → Case
 operation Eq a b = fits (answers (whether (a ≡ b)))
 operation Ne a b = fits (answers (whether (a ≡ b → ⊥)))
-operation Member a b = given (as_list b) (λ ds. fits (answers (whether (IsEntry a ds))))
+operation Member a b = membership a (as_list b) (as_semigroup b)
 operation Plus a b = of_integers Plus a b
 operation Less a b = of_integers Less a b
 operation Times a b = of_integers Times a b

@@ -1,44 +1,35 @@
--- The rows of the commands and of the operators.
-use Rattle.std.specs.Prelude.{◌≡◌, ℕ, ℤ, pos, List, []}
-use Rattle.sg_defs.specs.Membership.{IsMember}
-use Rattle.sg_defs.specs.Invariants.{IsFrobenius}
-use Rattle.sg_value.specs.Data.{int, Items}
-use Rattle.sg_calls.specs.Order.{Plain, Case, fits}
-use Rattle.sg_calls.specs.Kinds.{given, sole, as_list, as_integers, as_semigroup, spread, answers, an_integer, a_natural, generates}
+-- Which row answers which command.
+use Rattle.std.specs.Prelude.{ℕ, List}
+use Rattle.sg_value.specs.Data.{Items}
+use Rattle.sg_rows.specs.Order.{Case}
+use Rattle.sg_rows.specs.Kinds.{given, sole, spread}
+use Rattle.sg_rows.specs.Several.{of_two, of_three}
+use Rattle.sg_lists.specs.Lists.{gcd_of, lcm_of, concatenation_of}
+use Rattle.sg_makers.specs.Makers.{semigroup_of}
+use Rattle.sg_makers.specs.Derived.{intersection_of, quotient_of}
+use Rattle.sg_makers.specs.Modular.{modular_of, proportional_of}
+use Rattle.sg_facts.specs.Lists.{apery_list_of}
+use Rattle.sg_facts.specs.Modulo.{apery_list_modulo_of}
+use Rattle.sg_calls.specs.Shapes.{one_or_two}
+use Rattle.sg_calls.specs.SemigroupFacts as semigroup
+use Rattle.sg_calls.specs.ShapeFacts as shape
+use Rattle.sg_calls.specs.ListFacts as list
+use Rattle.sg_calls.specs.ListMakers as maker
 use Rattle.sg_calls.specs.declared.command.Command.{Command}
-use Rattle.sg_calls.specs.declared.command.Command.TheVariants.{FrobeniusNumber, Length, Maximum, Minimum, NumericalSemigroup}
-use Rattle.sg_calls.specs.Words.{entry_count, total, IsGreatest, IsLeast, IsGcdOfAll, naturals, AreSmall, Generate}
-
--- the number of entries
-abbrev pub length_of : Plain → Case
-length_of a = given (as_list a) (λ ds. fits (answers (λ d. d ≡ int (pos (entry_count ds)))))
-
-abbrev pub sum_of : Plain → Case
-sum_of a = given (as_integers a) (λ zs. fits (answers (λ d. d ≡ int (total zs))))
-
--- an entry of a list of integers, which has one
-abbrev pub an_entry : (ℤ → Type 0) → List ℤ → Case
-an_entry P zs = fits (record (answers (an_integer P)) { bad = zs ≡ [] })
-
-abbrev pub maximum_of : Plain → Case
-maximum_of a = given (as_integers a) (λ zs. an_entry (IsGreatest zs) zs)
-
-abbrev pub minimum_of : Plain → Case
-minimum_of a = given (as_integers a) (λ zs. an_entry (IsLeast zs) zs)
-
-abbrev pub frobenius_number_of : Plain → Case
-frobenius_number_of a = given (as_semigroup a) (λ G. fits (answers (an_integer (IsFrobenius G))))
-
-abbrev pub gcd_of : List ℤ → Case
-gcd_of zs = fits (record (answers (a_natural (IsGcdOfAll zs))) { bad = zs ≡ [] })
-
-abbrev pub semigroup_of : List ℤ → Case
-semigroup_of zs = fits (record (generates (IsMember (naturals zs))) { size = ¬ AreSmall zs; bad = ¬ Generate zs })
+use Rattle.sg_calls.specs.declared.command.Command.TheVariants.{OfSemigroup, OfList, FromList, Concatenation, Gcd, Intersection, Lcm, NumericalSemigroup, QuotientOfNumericalSemigroup, AperyList, ModularNumericalSemigroup, ProportionallyModularNumericalSemigroup, OfShape}
 
 -- what the row of a command says of arguments
 abbrev pub row : Command → Items (List ℕ) → Case
-row Length args = given (sole args) length_of
-row Maximum args = given (sole args) maximum_of
-row Minimum args = given (sole args) minimum_of
+row (FromList make) args = given (sole args) (maker.made_by make)
+row (OfList fact) args = given (sole args) (list.fact_of fact)
+row (OfSemigroup fact) args = given (sole args) (semigroup.fact_of fact)
+row (OfShape fact) args = given (sole args) (shape.fact_of fact)
+row AperyList args = one_or_two args apery_list_of apery_list_modulo_of
+row Concatenation args = concatenation_of args
+row Gcd args = given (spread args) gcd_of
+row Intersection args = of_two args intersection_of
+row Lcm args = given (spread args) lcm_of
+row ModularNumericalSemigroup args = of_two args modular_of
 row NumericalSemigroup args = given (spread args) semigroup_of
-row FrobeniusNumber args = given (sole args) frobenius_number_of
+row ProportionallyModularNumericalSemigroup args = of_three args proportional_of
+row QuotientOfNumericalSemigroup args = of_two args quotient_of

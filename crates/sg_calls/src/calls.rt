@@ -5,13 +5,17 @@ ghost use Rattle.sg_value.specs.Plain.{AllKnownIn, plain_of_all};
 ghost use Rattle.sg_store.specs.Interned.{Keeps};
 ghost use Rattle.sg_calls.specs.Commands.{checked, command_named, takes};
 ghost use Rattle.sg_calls.specs.Rows.{row};
-ghost use Rattle.sg_calls.specs.Answers.{Replies, case_of};
+ghost use Rattle.sg_rows.specs.Replies.{Replies};
+ghost use Rattle.sg_calls.specs.Answers.{case_of};
 
+use crate::apery::apery;
 use crate::command::{Command, command_named};
-use crate::constructors::numerical_semigroup_of;
-use crate::fault::{CallFault, Fault};
-use crate::invariants::frobenius_number_of;
-use crate::lists::{length_of, maximum_of, minimum_of};
+use crate::{list_facts, list_makers, semigroup_facts, shape_facts};
+use sg_lists::{concatenation_of, gcd_of, lcm_of};
+use sg_makers::{
+    intersection_of, modular_of, numerical_semigroup_of, proportional_of, quotient_of,
+};
+use sg_rows::{CallFault, Fault};
 use sg_store::Store;
 use sg_value::Value;
 use std::alloc::Global;
@@ -29,11 +33,21 @@ fn perform(
     ensures keeps { Keeps store.old store.new }
 {
     match command {
-        Command::FrobeniusNumber => frobenius_number_of(alloc, store, &args[0]),
-        Command::Length => length_of(&args[0]),
-        Command::Maximum => maximum_of(alloc, &args[0]),
-        Command::Minimum => minimum_of(alloc, &args[0]),
+        Command::OfSemigroup(fact) => semigroup_facts::tell(alloc, store, fact, &args[0]),
+        Command::OfShape(fact) => shape_facts::tell(alloc, store, fact, &args[0]),
+        Command::OfList(fact) => list_facts::tell(alloc, fact, &args[0]),
+        Command::FromList(maker) => list_makers::make(alloc, store, maker, &args[0]),
+        Command::AperyList => apery(alloc, store, args),
+        Command::Concatenation => concatenation_of(alloc, args),
+        Command::Gcd => gcd_of(alloc, args),
+        Command::Intersection => intersection_of(alloc, store, &args[0], &args[1]),
+        Command::Lcm => lcm_of(alloc, args),
+        Command::ModularNumericalSemigroup => modular_of(alloc, store, &args[0], &args[1]),
         Command::NumericalSemigroup => numerical_semigroup_of(alloc, store, args),
+        Command::ProportionallyModularNumericalSemigroup => {
+            proportional_of(alloc, store, &args[0], &args[1], &args[2])
+        }
+        Command::QuotientOfNumericalSemigroup => quotient_of(alloc, store, &args[0], &args[1]),
     }
 }
 

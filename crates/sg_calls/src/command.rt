@@ -5,46 +5,132 @@ ghost use Rattle.std.specs.Map.{lookup};
 ghost use Rattle.std.specs.Str.{bytes_eq};
 ghost use Rattle.sg_calls.specs.Commands.{command_named, takes, checked, entry_of};
 
-use crate::fault::Fault;
+use crate::list_facts::ListFact;
+use crate::list_makers::ListMaker;
+use crate::semigroup_facts::SemigroupFact;
+use crate::shape_facts::ShapeFact;
+use sg_rows::Fault;
 
-/// A command.
+/// A command, with those of one argument by what they take and give.
 #[derive(Clone, Copy, PartialEq, Eq, Debug)]
 pub enum Command {
-    FrobeniusNumber,
-    Length,
-    Maximum,
-    Minimum,
+    /// A fact of one semigroup.
+    OfSemigroup(SemigroupFact),
+    /// A fact of the shape of one semigroup, or semigroups made of it.
+    OfShape(ShapeFact),
+    /// A fact of one list.
+    OfList(ListFact),
+    /// A semigroup from one list of integers.
+    FromList(ListMaker),
+    AperyList,
+    Concatenation,
+    Gcd,
+    Intersection,
+    Lcm,
+    ModularNumericalSemigroup,
     NumericalSemigroup,
+    ProportionallyModularNumericalSemigroup,
+    QuotientOfNumericalSemigroup,
 }
 
 /// A name and the command that it stands for.
-struct Named {
-    name: &'static [u8],
-    command: Command,
-}
+struct Named(&'static [u8], Command);
 
 /// The names of all commands.
-static NAMES: [Named; 5] = [
-    Named {
-        name: b"FrobeniusNumber",
-        command: Command::FrobeniusNumber,
-    },
-    Named {
-        name: b"Length",
-        command: Command::Length,
-    },
-    Named {
-        name: b"Maximum",
-        command: Command::Maximum,
-    },
-    Named {
-        name: b"Minimum",
-        command: Command::Minimum,
-    },
-    Named {
-        name: b"NumericalSemigroup",
-        command: Command::NumericalSemigroup,
-    },
+static NAMES: [Named; 39] = [
+    Named(b"AperyList", Command::AperyList),
+    Named(b"ArfClosure", Command::OfShape(ShapeFact::ArfClosure)),
+    Named(b"Concatenation", Command::Concatenation),
+    Named(b"Conductor", Command::OfSemigroup(SemigroupFact::Conductor)),
+    Named(
+        b"DecomposeIntoIrreducibles",
+        Command::OfShape(ShapeFact::DecomposeIntoIrreducibles),
+    ),
+    Named(
+        b"EmbeddingDimension",
+        Command::OfSemigroup(SemigroupFact::EmbeddingDimension),
+    ),
+    Named(
+        b"FrobeniusNumber",
+        Command::OfSemigroup(SemigroupFact::FrobeniusNumber),
+    ),
+    Named(
+        b"FundamentalGaps",
+        Command::OfSemigroup(SemigroupFact::FundamentalGaps),
+    ),
+    Named(b"Gaps", Command::OfSemigroup(SemigroupFact::Gaps)),
+    Named(b"Gcd", Command::Gcd),
+    Named(b"Genus", Command::OfSemigroup(SemigroupFact::Genus)),
+    Named(b"Intersection", Command::Intersection),
+    Named(b"IsArf", Command::OfShape(ShapeFact::IsArf)),
+    Named(b"IsIrreducible", Command::OfShape(ShapeFact::IsIrreducible)),
+    Named(b"IsMED", Command::OfShape(ShapeFact::IsMED)),
+    Named(
+        b"IsPseudoSymmetric",
+        Command::OfShape(ShapeFact::IsPseudoSymmetric),
+    ),
+    Named(b"IsSaturated", Command::OfShape(ShapeFact::IsSaturated)),
+    Named(b"IsSymmetric", Command::OfShape(ShapeFact::IsSymmetric)),
+    Named(b"Lcm", Command::Lcm),
+    Named(b"Length", Command::OfList(ListFact::Length)),
+    Named(b"MEDClosure", Command::OfShape(ShapeFact::MEDClosure)),
+    Named(b"Maximum", Command::OfList(ListFact::Maximum)),
+    Named(
+        b"MinimalGenerators",
+        Command::OfSemigroup(SemigroupFact::MinimalGenerators),
+    ),
+    Named(b"Minimum", Command::OfList(ListFact::Minimum)),
+    Named(
+        b"ModularNumericalSemigroup",
+        Command::ModularNumericalSemigroup,
+    ),
+    Named(
+        b"Multiplicity",
+        Command::OfSemigroup(SemigroupFact::Multiplicity),
+    ),
+    Named(b"NumericalSemigroup", Command::NumericalSemigroup),
+    Named(
+        b"NumericalSemigroupByAperyList",
+        Command::FromList(ListMaker::AperyList),
+    ),
+    Named(
+        b"NumericalSemigroupByFundamentalGaps",
+        Command::FromList(ListMaker::FundamentalGaps),
+    ),
+    Named(
+        b"NumericalSemigroupByGaps",
+        Command::FromList(ListMaker::Gaps),
+    ),
+    Named(
+        b"NumericalSemigroupBySmallElements",
+        Command::FromList(ListMaker::SmallElements),
+    ),
+    Named(
+        b"ProportionallyModularNumericalSemigroup",
+        Command::ProportionallyModularNumericalSemigroup,
+    ),
+    Named(
+        b"PseudoFrobenius",
+        Command::OfSemigroup(SemigroupFact::PseudoFrobenius),
+    ),
+    Named(
+        b"QuotientOfNumericalSemigroup",
+        Command::QuotientOfNumericalSemigroup,
+    ),
+    Named(
+        b"SaturatedClosure",
+        Command::OfShape(ShapeFact::SaturatedClosure),
+    ),
+    Named(
+        b"SmallElements",
+        Command::OfSemigroup(SemigroupFact::SmallElements),
+    ),
+    Named(
+        b"SpecialGaps",
+        Command::OfSemigroup(SemigroupFact::SpecialGaps),
+    ),
+    Named(b"Sum", Command::OfList(ListFact::Sum)),
+    Named(b"Type", Command::OfSemigroup(SemigroupFact::Type)),
 ];
 
 /// The command of the first entry with this name.
@@ -52,8 +138,8 @@ fn find(entries: &[Named], name: &[u8]) -> Option<Command>
     ensures { result ≡ lookup (bytes_eq name.now) (map entry_of entries.now) }
 {
     for entry in entries {
-        if name == entry.name {
-            return Some(entry.command);
+        if name == entry.0 {
+            return Some(entry.1);
         }
     }
     None
@@ -71,10 +157,16 @@ fn takes(command: Command, count: usize) -> bool
     ensures { result ≡ takes command count }
 {
     match command {
-        Command::FrobeniusNumber | Command::Length | Command::Maximum | Command::Minimum => {
-            count == 1
+        Command::OfSemigroup(_) | Command::OfShape(_) | Command::OfList(_) | Command::FromList(_) =>
+            count == 1,
+        Command::AperyList => count == 1 || count == 2,
+        Command::Intersection
+        | Command::ModularNumericalSemigroup
+        | Command::QuotientOfNumericalSemigroup => count == 2,
+        Command::ProportionallyModularNumericalSemigroup => count == 3,
+        Command::Concatenation | Command::Gcd | Command::Lcm | Command::NumericalSemigroup => {
+            count >= 1
         }
-        Command::NumericalSemigroup => count >= 1,
     }
 }
 

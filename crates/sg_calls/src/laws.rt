@@ -1,8 +1,14 @@
 //! Laws over the definitions, each the contract of a function that does nothing.
 
-ghost use Rattle.sg_calls.specs.Laws.{OneAnswer};
+ghost use Rattle.sg_calls.specs.Laws.{OneAnswer, SomeAnswer};
 
 /// A command answers its arguments, and an operator its operands, in at most one way.
 pub fn one_answer()
     ensures { OneAnswer }
+{}
+
+/// A command has an answer over arguments whose semigroups are minimal lists within the limits, and an operator and the
+/// minus sign over all operands; the semigroups in it are such too.
+pub fn some_answer()
+    ensures { SomeAnswer }
 {}

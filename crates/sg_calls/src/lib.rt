@@ -1,29 +1,30 @@
 //! The rows of commands and operators.
 //!
-//! A row says what a call answers over plain values, in which a semigroup is its minimal list (`specs/Rows`,
-//! `specs/Operations`): the kinds that it takes, its conditions, and its value as a relation. The order in which
-//! refusals come is stated once, for all rows (`specs/Order`).
+//! `specs/Commands` has the table of names, `specs/Rows` which row answers which command, `specs/Operations` the rows
+//! of the operators. The rows themselves stand in `sg_lists`, `sg_makers`, `sg_facts` and `sg_shapes`, what they are made of and the
+//! order of refusals in `sg_rows`.
 //!
 //! The layer above uses: `check_call` refuses an unknown name or a wrong number of arguments; `answer` and `combine`
 //! give the value of the row, or the first refusal; known ids of the store stay, and an id in a value is known.
 #![tactic(auto)]
 
+mod apery;
 mod calls;
 mod command;
-mod constructors;
-mod fault;
-mod invariants;
-mod kinds;
 pub mod laws;
-mod lists;
+mod list_facts;
+mod list_makers;
+mod membership;
 mod operations;
 mod operator;
+mod semigroup_facts;
+mod shape_facts;
 
 pub use calls::answer;
 pub use command::check_call;
-pub use fault::{CallFault, Fault};
 pub use operations::{combine, negate};
 pub use operator::Operator;
+pub use sg_rows::{CallFault, Fault};
 
 #[cfg(test)]
 mod tests;

@@ -1,32 +1,21 @@
 //! Operators on their operands.
 
-ghost use Rattle.std.specs.Prelude.{◌≡◌, ◌-ℤ◌, pos, ℕ, ℤ, List, Option, SomeIff, FitsSigned, IfErr, IsTrue, ◌↔◌, slice_get};
+ghost use Rattle.std.specs.Prelude.{◌≡◌, ◌-ℤ◌, pos, ℕ, ℤ, List, SomeIff, FitsSigned, slice_get};
 ghost use Rattle.std.specs.Int.{w64};
-ghost use Rattle.sg_value.specs.Data.{int, EachSemigroup};
-ghost use Rattle.sg_value.specs.Plain.{contents, contents_of_all, plain, AllKnown, AllKnownIn, plain_of_all};
+ghost use Rattle.sg_value.specs.Data.{int};
+ghost use Rattle.sg_value.specs.Plain.{plain, AllKnown};
 ghost use Rattle.sg_store.specs.Interned.{Keeps};
-ghost use Rattle.sg_calls.specs.Order.{fits};
-ghost use Rattle.sg_calls.specs.Kinds.{answers};
-ghost use Rattle.sg_calls.specs.Words.{IsEntry};
+ghost use Rattle.sg_rows.specs.Order.{fits};
+ghost use Rattle.sg_rows.specs.Kinds.{answers};
 ghost use Rattle.sg_calls.specs.Operations.{calculation, operation, negation, of_integers};
-ghost use Rattle.sg_calls.specs.Answers.{Replies};
+ghost use Rattle.sg_rows.specs.Replies.{Replies};
 
-use crate::fault::{CallFault, Fault};
-use crate::kinds::{entries_of, integer_of, truth};
+use crate::membership::member;
 use crate::operator::Operator;
+use sg_rows::{CallFault, Fault, integer, integer_of, truth};
 use sg_store::Store;
 use sg_value::Value;
 use std::alloc::Global;
-
-/// The integer, or that it is outside of 64 bits.
-pub fn integer(found: Option<i64>) -> Result<Value, CallFault>
-    ensures { (store : List (List ℕ)) (z : ℤ) → SomeIff found (FitsSigned w64 z) z → Replies result store (fits (answers (λ d. d ≡ int z))) }
-{
-    match found {
-        Some(z) => Ok(Value::Int(z)),
-        None => Err(CallFault::Script(Fault::Overflow)),
-    }
-}
 
 /// The remainder that is not negative.
 fn remainder(x: i64, y: i64) -> Result<Value, CallFault>
@@ -80,35 +69,9 @@ pub fn negate(a: &Value) -> Result<Value, CallFault>
     integer(0i64.checked_sub(x))
 }
 
-/// Whether the value is an entry of the list.
-fn is_among(store: &Store, v: &Value, entries: &[Value]) -> bool
-    requires value { AllKnown (slice_get store.now) v.now }
-    requires entries { AllKnownIn (slice_get store.now) entries.now }
-    ensures { IsTrue result ↔ IsEntry (plain (slice_get store.now) v.now) (plain_of_all (slice_get store.now) entries.now) }
-{
-    for entry in entries {
-        if store.equal(v, entry) {
-            return true;
-        }
-    }
-    false
-}
-
-/// Whether a list has the value as an entry.
-fn member(store: &Store, v: &Value, list: &Value) -> Result<Value, CallFault>
-    requires value { AllKnown (slice_get store.now) v.now }
-    requires list { AllKnown (slice_get store.now) list.now }
-    ensures { Replies result store.now (operation Operator.Member (plain (slice_get store.now) v.now) (plain (slice_get store.now) list.now)) }
-{
-    let Some(entries) = entries_of(list) else {
-        return Err(CallFault::Script(Fault::WrongType));
-    };
-    Ok(truth(is_among(store, v, entries)))
-}
-
 /// What an operator gives of its operands.
 pub fn combine(
-    _alloc: Global,
+    alloc: Global,
     store: &mut Store,
     op: Operator,
     a: &Value,
@@ -122,7 +85,7 @@ pub fn combine(
     match op {
         Operator::Eq => Ok(truth(store.equal(a, b))),
         Operator::Ne => Ok(truth(!store.equal(a, b))),
-        Operator::Member => member(store, a, b),
+        Operator::Member => member(alloc, store, a, b),
         Operator::Plus
         | Operator::Less
         | Operator::Times

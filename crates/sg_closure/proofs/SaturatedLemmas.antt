@@ -51,13 +51,13 @@ module _ (G : List ℕ) (s : IsNumericalSemigroup G) (minimal : IsMinimal G) whe
   positive : 0 < get_or G 0 0
   positive = omega (arith, s.positive 0 0 s.not_empty)
 
-  saturation-sums : (a b : ℕ) → IsInSaturation G a → IsInSaturation G b → IsInSaturation G (a + b)
+  pub saturation-sums : (a b : ℕ) → IsInSaturation G a → IsInSaturation G b → IsInSaturation G (a + b)
   saturation-sums a b (inl e) k = subst (IsInSaturation G) (let f : b ≡ a + b = omega arith in f) k
   saturation-sums a b (inr h) (inl e) = subst (IsInSaturation G) (let f : a ≡ a + b = omega arith in f) (inr h)
   saturation-sums a b (inr h) (inr k) =
       inr (omega (arith, h.0), λ d all. dvd-add d (h.1 d (λ g c l. all g c (omega arith))) (k.1 d (λ g c l. all g c (omega arith))))
 
-  saturation-holds : (n : ℕ) → IsMember G n → IsInSaturation G n
+  pub saturation-holds : (n : ℕ) → IsMember G n → IsInSaturation G n
   saturation-holds = member-induction (IsInSaturation G) G (inl (let e : 0 ≡ 0 = omega arith in e))
       (λ i n l p. saturation-sums n (get_or G i 0) p
       (inr (first-least G minimal.ascending i l, λ d all. all (get_or G i 0) (place-contains G i l) (omega arith))))
@@ -67,7 +67,7 @@ module _ (G : List ℕ) (s : IsNumericalSemigroup G) (minimal : IsMinimal G) whe
   divides-lower d n t l all (inl e) = subst (λ x. d ∣ x) (sym e) (dvd-zero d)
   divides-lower d n t l all (inr h) = h.1 d (λ g c m. all g c (omega arith))
 
-  saturation-saturated : (n : ℕ) (ss : List ℕ) (zs : List ℤ) (r : ℕ) → IsInSaturation G n → ((i : ℕ) → i < length ss → IsInSaturation G (get_or ss i 0) × (get_or ss i 0 ≤ n)) →
+  pub saturation-saturated : (n : ℕ) (ss : List ℕ) (zs : List ℤ) (r : ℕ) → IsInSaturation G n → ((i : ℕ) → i < length ss → IsInSaturation G (get_or ss i 0) × (get_or ss i 0 ≤ n)) →
       integer_value_of ss zs ≡ pos r → IsInSaturation G (n + r)
   saturation-saturated n ss zs r (inl e) h f =
       let none : 0 ∣ r = combination-divides 0 ss zs r
@@ -121,7 +121,7 @@ module _ (G : List ℕ) (s : IsNumericalSemigroup G) (minimal : IsMinimal G) whe
           (All-cons (λ t. IsMember K t × (t ≤ get_or G k 0)) (get_or G 0 0) part (above (get_or G 0 0) (member-entry G 0 s.not_empty), entry-low 0 (omega arith))
           (All-from_get_or (λ t. IsMember K t × (t ≤ get_or G k 0)) part 0 held)) z.1 z.2)
 
-    saturation-least : (n : ℕ) → IsInSaturation G n → IsMember K n
+    pub saturation-least : (n : ℕ) → IsInSaturation G n → IsMember K n
     saturation-least n (inl e) = subst (IsMember K) (sym e) (member-zero K)
     saturation-least n (inr h) =
         let r = last-low G n (length G) s.not_empty h.0 in

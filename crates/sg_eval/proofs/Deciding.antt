@@ -5,9 +5,9 @@ use Rattle.sg_value.specs.Data.{int, truth, text, list, fail, semigroup, data_ma
 use Rattle.sg_value.specs.Plain.{Named, AllKnown, IsKnown, plain, generators_at}
 use Rattle.sg_value.specs.declared.value.Value.{Value}
 use Rattle.sg_value.specs.declared.value.Value.TheVariants as value
-use Rattle.sg_calls.specs.Order.{Plain}
-use Rattle.sg_calls.specs.declared.fault.CallFault.{CallFault}
-use Rattle.sg_calls.proofs.Replying.{contents-Bool}
+use Rattle.sg_rows.specs.Order.{Plain}
+use Rattle.sg_rows.specs.declared.fault.CallFault.{CallFault}
+use Rattle.sg_rows.proofs.Replying.{contents-Bool}
 use Rattle.sg_eval.specs.Expressions.{decided, turned}
 use Rattle.sg_eval.specs.Outcomes.{Evaluates}
 use Rattle.sg_eval.specs.Process.{Process, gives, refuses, reads, asks, sets, writes, ◌>>=◌}

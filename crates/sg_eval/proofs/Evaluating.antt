@@ -7,13 +7,13 @@ use Rattle.sg_value.specs.Data.{Items, list}
 use Rattle.sg_value.specs.Plain.{Named, AllKnown, AllKnownIn, contents, contents_of_all, plain, plain_of_all}
 use Rattle.sg_value.specs.declared.value.Value.{Value}
 use Rattle.sg_store.specs.Interned.{Keeps}
-use Rattle.sg_calls.specs.declared.fault.CallFault.{CallFault}
-use Rattle.sg_calls.specs.declared.fault.CallFault.TheVariants.{Script, Memory}
+use Rattle.sg_rows.specs.declared.fault.CallFault.{CallFault}
+use Rattle.sg_rows.specs.declared.fault.CallFault.TheVariants.{Script, Memory}
 use Rattle.sg_eval.specs.Process.{Process, gives, ◌>>=◌, Runs}
 use Rattle.sg_eval.specs.Outcomes.{Gives, Evaluates}
 use Rattle.sg_value.proofs.OneStore.{data_map-kept}
-use Rattle.sg_calls.specs.Order.{Reply, Case, IsReply}
-use Rattle.sg_calls.specs.Answers.{Replies}
+use Rattle.sg_rows.specs.Order.{Reply, Case, IsReply}
+use Rattle.sg_rows.specs.Replies.{Replies}
 use Rattle.sg_eval.specs.Queries.{Query, IsAnswer}
 use Rattle.sg_eval.specs.Expressions.{ask}
 use Rattle.sg_eval.specs.State.{State}

@@ -6,20 +6,21 @@ use Rattle.std.specs.Option.{option_map}
 use Rattle.sg_value.specs.Data.{Items, none, item}
 use Rattle.sg_value.specs.Plain.{Named, plain_of_all}
 use Rattle.sg_value.specs.declared.value.Value.{Value}
-use Rattle.sg_calls.specs.Order.{Plain}
-use Rattle.sg_calls.specs.Words.{join}
+use Rattle.sg_rows.specs.Order.{Plain}
+use Rattle.sg_rows.specs.Words.{join}
 use Rattle.std.specs.Prelude.{⊤}
 use Rattle.sg_store.specs.Interned.{Keeps}
 use Rattle.sg_calls.specs.Commands.{checked}
-use Rattle.sg_calls.specs.declared.fault.Fault.{Fault}
-use Rattle.sg_calls.specs.declared.fault.CallFault.{CallFault}
-use Rattle.sg_calls.specs.declared.fault.CallFault.TheVariants.{Script}
+use Rattle.sg_rows.specs.declared.fault.Fault.{Fault}
+use Rattle.sg_rows.specs.declared.fault.CallFault.{CallFault}
+use Rattle.sg_rows.specs.declared.fault.CallFault.TheVariants.{Script}
 use Rattle.sg_eval.specs.Queries.{calls}
-use Rattle.sg_tree.specs.Tree.{Argument, Arguments, argument, no_arguments, plain as plain_argument, arrow}
+use Rattle.sg_tree.specs.Tree.{call, Argument, Arguments, argument, no_arguments, plain as plain_argument, arrow}
 use Rattle.sg_tree.specs.TreeView.{argument_of, arguments_of}
 use Rattle.sg_tree.specs.declared.expr.Arg.{Arg}
-use Rattle.sg_eval.specs.Expressions.{eval, eval_given, argument_count, unless, plain_alone, ask}
-use Rattle.sg_eval.specs.Given.{plain_if, known_if, plain_where, known_where, eval_argument, called_plain, IsWith}
+use Rattle.sg_eval.specs.declared.folding.Folding.{Folding}
+use Rattle.sg_eval.specs.Expressions.{eval, eval_given, eval_folding, folding_named, called, argument_count, unless, plain_alone, ask}
+use Rattle.sg_eval.specs.Given.{plain_if, known_if, plain_where, known_where, eval_argument, IsWith}
 use Rattle.sg_eval.specs.Outcomes.{Evaluates}
 use Rattle.sg_eval.specs.Process.{Process, gives, refuses, ◌>>=◌}
 use Rattle.sg_eval.specs.State.{State}
@@ -122,13 +123,22 @@ module _ (ps : Vars) (s s1 : State) (a : Argument) (others : Arguments) (o : Opt
       (evaluates_exit plain_if known_if plain_where known_where r e s s1 (λ names. eval_argument ps a) (λ names d. after_given ps others (with_where (plain_where names o) d)) failed
       (subst (λ qs. Evaluates plain_if known_if (Err e) s s1 (λ names. eval_argument qs a)) same h))
 
--- a call goes on where its name and the number of its arguments are right, and is refused where not
-pub call_right : (env : Vars) (name : List ℕ) (gs : List Arg) → checked name (length gs) ≡ None
-    → eval_given env (arguments_of gs) >>= (λ values. plain_alone values (λ ds. ask (calls name ds))) ≡ called_plain env name (arguments_of gs)
-call_right env name gs right = ap (λ o. unless o (eval_given env (arguments_of gs) >>= (λ values. plain_alone values (λ ds. ask (calls name ds))))) (sym (ap (checked name) (count-arguments gs) ∙ right))
+-- a call of a command that takes no arrow goes on where its name and the number of its arguments are right, and is
+-- refused where not
+pub call_right : (env : Vars) (name : List ℕ) (gs : List Arg) → folding_named name ≡ None → checked name (length gs) ≡ None
+    → eval_given env (arguments_of gs) >>= (λ values. plain_alone values (λ ds. ask (calls name ds))) ≡ eval env (call name (arguments_of gs))
+call_right env name gs alone right =
+    ap (λ o. unless o (eval_given env (arguments_of gs) >>= (λ values. plain_alone values (λ ds. ask (calls name ds))))) (sym (ap (checked name) (count-arguments gs) ∙ right))
+    ∙ ap (λ o. called o name (argument_count (arguments_of gs)) (eval_given env (arguments_of gs)) (eval_folding env (arguments_of gs))) (sym alone)
 
-pub call_wrong : (env : Vars) (name : List ℕ) (gs : List Arg) (e : Fault) → checked name (length gs) ≡ Some e → refuses e ≡ called_plain env name (arguments_of gs)
-call_wrong env name gs e wrong = ap (λ o. unless o (eval_given env (arguments_of gs) >>= (λ values. plain_alone values (λ ds. ask (calls name ds))))) (sym (ap (checked name) (count-arguments gs) ∙ wrong))
+pub call_wrong : (env : Vars) (name : List ℕ) (gs : List Arg) (e : Fault) → folding_named name ≡ None → checked name (length gs) ≡ Some e → refuses e ≡ eval env (call name (arguments_of gs))
+call_wrong env name gs e alone wrong =
+    ap (λ o. unless o (eval_given env (arguments_of gs) >>= (λ values. plain_alone values (λ ds. ask (calls name ds))))) (sym (ap (checked name) (count-arguments gs) ∙ wrong))
+    ∙ ap (λ o. called o name (argument_count (arguments_of gs)) (eval_given env (arguments_of gs)) (eval_folding env (arguments_of gs))) (sym alone)
+
+-- a call of a command that takes an arrow
+pub call_folds : (env : Vars) (name : List ℕ) (gs : List Arg) (fold : Folding) → folding_named name ≡ Some fold → eval_folding env (arguments_of gs) fold ≡ eval env (call name (arguments_of gs))
+call_folds env name gs fold named = ap (λ o. called o name (argument_count (arguments_of gs)) (eval_given env (arguments_of gs)) (eval_folding env (arguments_of gs))) (sym named)
 
 -- refused at once
 pub evaluates_refuses : {Y B : Type 0} (view : Named → Y → B) (known : Named → Y → Type 0) (e : Fault) (s : State) → Evaluates view known (Err (Script e)) s s (λ names. refuses e)

@@ -6,9 +6,9 @@ use Rattle.sg_value.specs.Data.{data_map, EachSemigroup}
 use Rattle.sg_value.specs.Plain.{AllKnown, AllKnownIn, contents, plain, plain_of_all, generators_at, IsKnown}
 use Rattle.sg_value.specs.declared.value.Value.{Value}
 use Rattle.sg_store.specs.Interned.{Keeps}
-use Rattle.sg_calls.specs.Order.{Plain, Reply, IsReply}
+use Rattle.sg_rows.specs.Order.{Plain, Reply, IsReply}
 use Rattle.sg_calls.specs.Commands.{checked, command_named}
-use Rattle.sg_calls.specs.Words.{entry_count}
+use Rattle.sg_rows.specs.Words.{entry_count}
 use Rattle.sg_calls.specs.Answers.{Answer, reply_unless, case_of}
 use Rattle.sg_eval.specs.Expressions.{named}
 use Rattle.sg_eval.specs.Process.{Runs}

@@ -8,3 +8,14 @@ pub mod Deciding
 pub mod Steps
 pub mod GivenSteps
 pub mod Spanned
+pub mod FoldSteps
+pub mod FoldLoop
+pub mod Executing
+pub mod Blocks
+pub mod Named
+pub mod Sizes
+pub mod Stepping
+pub mod SomeEnd
+pub mod LawfulExpressions
+pub mod LawfulStatements
+pub mod Borrowed

@@ -4,12 +4,12 @@ use Rattle.sg_value.specs.Data.{Data, int, truth, text, list, fail, semigroup, I
 use Rattle.sg_value.specs.Plain.{AllKnownIn, IsKnown, contents, contents_of_all, plain_of_all, generators_at}
 use Rattle.sg_value.specs.declared.value.Value.{Value, the_lemmas as value_lemmas}
 use Rattle.sg_value.specs.declared.value.Value.TheVariants as value
-use Rattle.sg_calls.specs.Order.{Reply, Case, fits, IsReply, Delivers}
-use Rattle.sg_calls.specs.Kinds.{answers}
-use Rattle.sg_calls.specs.Answers.{Replies}
-use Rattle.sg_calls.specs.declared.fault.Fault.TheVariants.{Depth, TooLarge}
-use Rattle.sg_calls.specs.declared.fault.CallFault.TheVariants.{Script}
-use Rattle.sg_calls.proofs.Replying.{delivered, answers_pass}
+use Rattle.sg_rows.specs.Order.{Reply, Case, fits, IsReply, Delivers}
+use Rattle.sg_rows.specs.Kinds.{answers}
+use Rattle.sg_rows.specs.Replies.{Replies}
+use Rattle.sg_rows.specs.declared.fault.Fault.TheVariants.{Depth, TooLarge}
+use Rattle.sg_rows.specs.declared.fault.CallFault.TheVariants.{Script}
+use Rattle.sg_rows.proofs.Replying.{delivered, answers_pass}
 
 mutual
   pub depth_of-map : {H K : Type 0} (f : H → K) (d : Data H) → depth_of (data_map f d) ≡ depth_of d

@@ -2,10 +2,11 @@
 use Rattle.std.proofs.Common.{◌≡◌, ℕ, List, ◌++◌, Result, ap, sym, ◌∙◌, subst}
 use Rattle.std.specs.Prelude.{◌-ℤ◌}
 use Rattle.sg_value.specs.Data.{list}
-use Rattle.sg_calls.specs.Order.{Reply, fits}
-use Rattle.sg_calls.specs.Kinds.{answers, as_integer, given}
-use Rattle.sg_calls.specs.declared.fault.Fault.{Fault}
-use Rattle.sg_calls.proofs.OneReply.{reply_one, operators_one, sign_one, commands_one, given_one, is_one}
+use Rattle.sg_rows.specs.Order.{Reply, fits}
+use Rattle.sg_rows.specs.Kinds.{answers, as_integer, given}
+use Rattle.sg_rows.specs.declared.fault.Fault.{Fault}
+use Rattle.sg_rows.proofs.OneValue.{reply_one, given_one, is_one}
+use Rattle.sg_calls.proofs.OneReply.{operators_one, sign_one, commands_one}
 use Rattle.sg_eval.specs.Queries.{Query, calls, combines, negates, lists, spans, indexes, IsAnswer, span_of, integers_from, span_count}
 use Rattle.sg_eval.specs.Process.{Process, gives, refuses, reads, asks, sets, writes, Runs}
 use Rattle.sg_eval.specs.Vars.{Vars, value_at, with_value}

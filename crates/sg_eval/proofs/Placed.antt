@@ -4,10 +4,10 @@ use Rattle.std.specs.Option.{option_map}
 use Rattle.sg_value.specs.Data.{Data, Items, int, truth, text, list, fail, semigroup, none, item, data_map, items_map, EachSemigroup, EachSemigroupOfAll}
 use Rattle.sg_value.specs.Plain.{AllKnown, IsKnown, contents, contents_of_all, plain, generators_at}
 use Rattle.sg_value.specs.declared.value.Value.{Value}
-use Rattle.sg_calls.specs.Kinds.{as_integer, as_list}
-use Rattle.sg_calls.specs.declared.fault.Fault.TheVariants.{IndexOut}
-use Rattle.sg_calls.specs.declared.fault.CallFault.TheVariants.{Script}
-use Rattle.sg_calls.proofs.Replying.{as_integer-plain}
+use Rattle.sg_rows.specs.Kinds.{as_integer, as_list}
+use Rattle.sg_rows.specs.declared.fault.Fault.TheVariants.{IndexOut}
+use Rattle.sg_rows.specs.declared.fault.CallFault.TheVariants.{Script}
+use Rattle.sg_rows.proofs.Replying.{as_integer-plain}
 use Rattle.sg_eval.specs.Queries.{entry_at, entry_at_integer, found_or_out, item_of, indexes}
 use Rattle.sg_eval.specs.Entries.{entry_from, entry_in, as_natural}
 use Rattle.sg_eval.specs.Expressions.{ask}

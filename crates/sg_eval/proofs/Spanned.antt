@@ -5,13 +5,13 @@ use Rattle.sg_value.specs.Data.{int, list, none, item, items_map, data_map, dept
 use Rattle.sg_value.specs.Plain.{AllKnown, IsKnown, contents, contents_of_all, plain, generators_at}
 use Rattle.sg_value.specs.declared.value.Value.{Value}
 use Rattle.sg_value.specs.declared.value.Value.TheVariants as value
-use Rattle.sg_calls.specs.Order.{Reply, fits, IsReply, Delivers}
-use Rattle.sg_calls.specs.Kinds.{as_integer, given, answers}
-use Rattle.sg_calls.specs.Words.{join}
-use Rattle.sg_calls.specs.declared.fault.Fault.{Fault}
-use Rattle.sg_calls.specs.declared.fault.Fault.TheVariants.{WrongType, TooLarge}
-use Rattle.sg_calls.specs.declared.fault.CallFault.TheVariants.{Script}
-use Rattle.sg_calls.proofs.Replying.{as_integer-plain, delivered, answers_pass}
+use Rattle.sg_rows.specs.Order.{Reply, fits, IsReply, Delivers}
+use Rattle.sg_rows.specs.Kinds.{as_integer, given, answers}
+use Rattle.sg_rows.specs.Words.{join}
+use Rattle.sg_rows.specs.declared.fault.Fault.{Fault}
+use Rattle.sg_rows.specs.declared.fault.Fault.TheVariants.{WrongType, TooLarge}
+use Rattle.sg_rows.specs.declared.fault.CallFault.TheVariants.{Script}
+use Rattle.sg_rows.proofs.Replying.{as_integer-plain, delivered, answers_pass}
 use Rattle.sg_eval.specs.Entries.{integers_in}
 use Rattle.sg_eval.specs.Expressions.{ask}
 use Rattle.sg_eval.specs.Outcomes.{Evaluates}

@@ -5,9 +5,9 @@ use Rattle.std.proofs.lemmas.List.{drop_more}
 use Rattle.sg_value.specs.Data.{Data, Items, none, item, truth, int, text, list, fail, semigroup}
 use Rattle.sg_value.specs.Plain.{Named, AllKnown, AllKnownIn, plain, plain_of_all}
 use Rattle.sg_value.specs.declared.value.Value.{Value}
-use Rattle.sg_calls.specs.Order.{Plain}
-use Rattle.sg_calls.specs.Words.{join}
-use Rattle.sg_calls.specs.declared.fault.CallFault.{CallFault}
+use Rattle.sg_rows.specs.Order.{Plain}
+use Rattle.sg_rows.specs.Words.{join}
+use Rattle.sg_rows.specs.declared.fault.CallFault.{CallFault}
 use Rattle.sg_tree.specs.Tree.{Tree, Trees, no_trees, tree, Links, link}
 use Rattle.sg_tree.specs.TreeView.{tree_of, trees_of, links_of}
 use Rattle.sg_tree.specs.declared.expr.Expr.{Expr}

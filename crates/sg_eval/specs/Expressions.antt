@@ -10,12 +10,14 @@ use Rattle.sg_tree.specs.declared.expr.Rel.{Rel}
 use Rattle.sg_tree.specs.declared.expr.Rel.TheVariants.{Eq, Ne, Lt, Le, Gt, Ge, Member}
 use Rattle.sg_calls.specs.declared.operator.Operator.{Operator}
 use Rattle.sg_calls.specs.declared.operator.Operator.TheVariants as operator
-use Rattle.sg_calls.specs.declared.fault.Fault.{Fault}
-use Rattle.sg_calls.specs.declared.fault.Fault.TheVariants.{UnknownName, WrongType, WrongCount}
-use Rattle.sg_calls.specs.Order.{Plain, Reply}
-use Rattle.sg_calls.specs.Kinds.{as_list}
+use Rattle.sg_rows.specs.declared.fault.Fault.{Fault}
+use Rattle.sg_rows.specs.declared.fault.Fault.TheVariants.{UnknownName, WrongType, WrongCount}
+use Rattle.sg_rows.specs.Order.{Plain, Reply}
+use Rattle.sg_rows.specs.Kinds.{as_list}
 use Rattle.sg_calls.specs.Commands.{checked}
-use Rattle.sg_calls.specs.Words.{entry_count}
+use Rattle.sg_rows.specs.Words.{entry_count}
+use Rattle.sg_eval.specs.declared.folding.Folding.{Folding}
+use Rattle.sg_eval.specs.declared.folding.Folding.TheVariants.{EachValue, ThoseTrue, AllTrue, AnyTrue, CountTrue}
 use Rattle.sg_eval.specs.Queries.{Query, calls, combines, negates, lists, spans, indexes}
 use Rattle.sg_eval.specs.Process.{Process, gives, refuses, reads, asks, ◌>>=◌}
 use Rattle.sg_eval.specs.Vars.{Vars}
@@ -84,20 +86,13 @@ argument_count no_arguments = 0
 argument_count (argument a others) = suc (argument_count others)
 
 -- the commands whose second argument is an arrow
-pub data Folding : Type 0 where
-  each_value : Folding
-  those_true : Folding
-  all_true : Folding
-  any_true : Folding
-  count_true : Folding
-
 abbrev pub foldings : List (List ℕ × Folding)
 foldings =
-    (codes "List", each_value)
-    ∷ (codes "Filtered", those_true)
-    ∷ (codes "ForAll", all_true)
-    ∷ (codes "ForAny", any_true)
-    ∷ (codes "Number", count_true)
+    (codes "List", EachValue)
+    ∷ (codes "Filtered", ThoseTrue)
+    ∷ (codes "ForAll", AllTrue)
+    ∷ (codes "ForAny", AnyTrue)
+    ∷ (codes "Number", CountTrue)
     ∷ []
 
 abbrev pub folding_named : List ℕ → Option Folding
@@ -123,11 +118,11 @@ is_each b f none = gives b
 is_each b f (item d ds) = f d >>= (λ v. decided v (λ c. if (if b then c else not c) then is_each b f ds else gives (not b)))
 
 abbrev pub folded : Folding → (Plain → Process Plain) → Items (List ℕ) → Process Plain
-folded each_value f ds = values_over f ds >>= (λ vs. ask (lists vs))
-folded those_true f ds = true_over f ds >>= (λ es. ask (lists es))
-folded all_true f ds = is_each true f ds >>= (λ b. gives (a_truth b))
-folded any_true f ds = is_each false f ds >>= (λ b. gives (a_truth b))
-folded count_true f ds = true_over f ds >>= (λ es. gives (int (pos (entry_count es))))
+folded EachValue f ds = values_over f ds >>= (λ vs. ask (lists vs))
+folded ThoseTrue f ds = true_over f ds >>= (λ es. ask (lists es))
+folded AllTrue f ds = is_each true f ds >>= (λ b. gives (a_truth b))
+folded AnyTrue f ds = is_each false f ds >>= (λ b. gives (a_truth b))
+folded CountTrue f ds = true_over f ds >>= (λ es. gives (int (pos (entry_count es))))
 
 abbrev mutual
   pub eval : Vars → Tree → Process Plain

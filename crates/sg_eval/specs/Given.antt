@@ -4,11 +4,9 @@ use Rattle.std.specs.Global.{Global}
 use Rattle.sg_value.specs.Data.{Items}
 use Rattle.sg_value.specs.Plain.{Named, AllKnown, plain}
 use Rattle.sg_value.specs.declared.value.Value.{Value}
-use Rattle.sg_tree.specs.Tree.{Argument, Arguments, plain as plain_argument, arrow}
-use Rattle.sg_calls.specs.Order.{Plain}
-use Rattle.sg_eval.specs.Expressions.{eval, eval_given, unless, argument_count, plain_alone, ask}
-use Rattle.sg_eval.specs.Queries.{calls}
-use Rattle.sg_calls.specs.Commands.{checked}
+use Rattle.sg_tree.specs.Tree.{Argument, plain as plain_argument, arrow}
+use Rattle.sg_rows.specs.Order.{Plain}
+use Rattle.sg_eval.specs.Expressions.{eval}
 use Rattle.sg_eval.specs.Outcomes.{plain_in, known_in}
 use Rattle.sg_eval.specs.Process.{Process, gives, ◌>>=◌}
 use Rattle.sg_eval.specs.Vars.{Vars}
@@ -40,7 +38,3 @@ IsWith None found all = all ≡ None
 IsWith (Some vs) None all = all ≡ None
 IsWith (Some vs) (Some v) None = ⊥
 IsWith (Some vs) (Some v) (Some ws) = ws.items ≡ vs.items ++ v ∷ []
-
--- a call of a command that takes no arrow
-abbrev pub called_plain : Vars → List ℕ → Arguments → Process Plain
-called_plain env name args = unless (checked name (argument_count args)) (eval_given env args >>= (λ values. plain_alone values (λ ds. ask (calls name ds))))

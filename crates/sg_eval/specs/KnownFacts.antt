@@ -1,9 +1,11 @@
 -- That the values of variables are known is a proposition.
-use Rattle.std.specs.Prelude.{ℕ, List}
+use Rattle.std.specs.Prelude.{ℕ, List, Vec}
+use Rattle.std.specs.Global.{Global}
+use Rattle.sg_value.specs.declared.value.Value.{Value}
 use Rattle.std.proofs.Props.{props}
 use Rattle.sg_value.specs.Data.{Data, int, truth, text, list, fail, semigroup, Items, none, item, EachSemigroup, EachSemigroupOfAll}
 use Rattle.sg_value.specs.Plain.{Named, IsKnown}
-use Rattle.sg_eval.specs.State.{AreKnown}
+use Rattle.sg_eval.specs.State.{AreKnown, AreKnownIn}
 use Rattle.sg_eval.specs.declared.variable.Variable.{Variable}
 
 mutual
@@ -19,5 +21,5 @@ mutual
   all_known-prop names none = Prim.hlevel props
   all_known-prop names (item d ds) = Prim.hlevel (props, each_known-prop names d, all_known-prop names ds)
 
-pub are_known-prop : (names : List (List ℕ)) (vs ws : List Variable) → IsProp (AreKnown names vs × AreKnown names ws)
-are_known-prop names vs ws = Prim.hlevel (props, each_known-prop)
+pub are_known-prop : (names : List (List ℕ)) (es : List (Vec ℕ Global × Value)) (ws : List Variable) → IsProp (AreKnownIn names es × AreKnown names ws)
+are_known-prop names es ws = Prim.hlevel (props, each_known-prop)

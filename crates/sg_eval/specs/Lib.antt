@@ -10,5 +10,8 @@ pub mod Entries
 pub mod Expressions
 pub mod Linked
 pub mod Given
+pub mod Folded
 pub mod Statements
+pub mod Steps
 pub mod Laws
+pub mod Lawful

@@ -1,12 +1,14 @@
 -- What calls gave and did.
 use Rattle.std.specs.Prelude.{◌≡◌, ℕ, List, [], Result, Ok, Err, IfOk, OnOk, slice_get, Vec, ⊤}
+use Rattle.std.specs.Borrow.{Bor}
 use Rattle.std.specs.Global.{Global}
 use Rattle.sg_value.specs.Data.{Items}
 use Rattle.sg_value.specs.declared.value.Value.{Value}
-use Rattle.sg_value.specs.Plain.{Named, AllKnownIn, plain_of_all}
+use Rattle.sg_value.specs.Plain.{Named, AllKnown, AllKnownIn, plain, plain_of_all}
 use Rattle.sg_store.specs.Interned.{Keeps}
-use Rattle.sg_calls.specs.declared.fault.CallFault.{CallFault}
-use Rattle.sg_calls.specs.declared.fault.CallFault.TheVariants.{Script, Memory}
+use Rattle.sg_rows.specs.declared.fault.CallFault.{CallFault}
+use Rattle.sg_rows.specs.declared.fault.CallFault.TheVariants.{Script, Memory}
+use Rattle.sg_rows.specs.Order.{Plain}
 use Rattle.sg_eval.specs.Process.{Process, Runs}
 use Rattle.sg_eval.specs.State.{State}
 use Rattle.sg_eval.specs.Vars.{Vars}
@@ -17,6 +19,13 @@ plain_in names vs = plain_of_all names vs.items
 
 abbrev pub known_in : Named → Vec Value Global → Type 0
 known_in names vs = AllKnownIn names vs.items
+
+-- a value where it stands
+abbrev pub plain_of : Named → Bor Value → Plain
+plain_of names v = plain names v.now
+
+abbrev pub known_of : Named → Bor Value → Type 0
+known_of names v = AllKnown names v.now
 
 -- a call gave what the process gives, which changes no variable and writes nothing
 abbrev pub Gives : {X A : Type 0} → (X → A) → Result X CallFault → Process A → Vars → Type 0
@@ -32,3 +41,8 @@ pub record Evaluates {X A : Type 0} (view : Named → X → A) (known : Named �
   pub parameters : OnOk r (new.parameters ≡ old.parameters)
   pub is_known : IfOk r (known (slice_get new.names))
   pub gives : (final : List (List ℕ)) → Keeps new.names final → Gives (view (slice_get final)) r (p (slice_get final)) old.variables
+
+-- a call found the value of a name, over this machine, or gave what the process gives
+abbrev pub Finds : Result (Unit {0}) CallFault → State → (Named → Process Plain) → Type 0
+Finds (Ok u) s p = (v : Value) × Evaluates plain AllKnown (Ok v) s s p
+Finds (Err e) s p = Evaluates plain AllKnown (Err e) s s p

@@ -1,7 +1,7 @@
 -- What a piece of a script does, step by step, whatever it is answered.
 use Rattle.std.specs.Prelude.{◌≡◌, ◌⊎◌, ℕ, List, [], ◌++◌, Option, Result, Ok, Err}
-use Rattle.sg_calls.specs.Order.{Plain, Reply}
-use Rattle.sg_calls.specs.declared.fault.Fault.{Fault}
+use Rattle.sg_rows.specs.Order.{Plain, Reply}
+use Rattle.sg_rows.specs.declared.fault.Fault.{Fault}
 use Rattle.sg_eval.specs.Queries.{Query, IsAnswer}
 use Rattle.sg_eval.specs.Vars.{Vars, value_at, with_value}
 

@@ -1,12 +1,12 @@
 -- What a statement asks for while it runs, and what is answered.
 use Rattle.std.specs.Prelude.{◌≡◌, ℕ, zero, suc, ℤ, pos, negsuc, ◌-ℤ◌, ◌+ℤ◌, List, Option, Some, None, Ok, Err}
 use Rattle.sg_value.specs.Data.{int, list, Items, none, item}
-use Rattle.sg_calls.specs.Order.{Plain, Reply, Case, fits, IsReply}
-use Rattle.sg_calls.specs.Kinds.{given, as_integer, as_list, answers}
+use Rattle.sg_rows.specs.Order.{Plain, Reply, Case, fits, IsReply}
+use Rattle.sg_rows.specs.Kinds.{given, as_integer, as_list, answers}
 use Rattle.sg_calls.specs.Operations.{operation, negation}
 use Rattle.sg_calls.specs.Answers.{Answer}
 use Rattle.sg_calls.specs.declared.operator.Operator.{Operator}
-use Rattle.sg_calls.specs.declared.fault.Fault.TheVariants.{WrongType, IndexOut}
+use Rattle.sg_rows.specs.declared.fault.Fault.TheVariants.{WrongType, IndexOut}
 
 pub data Query : Type 0 where
   -- a command of arguments

@@ -4,9 +4,9 @@ use Rattle.std.specs.Str.{bytes_eq}
 use Rattle.sg_value.specs.Data.{Items, none, item}
 use Rattle.sg_value.specs.Text.{text_of}
 use Rattle.sg_tree.specs.Tree.{Tree, number, quoted, truth, failing, variable, call, display, span, minus, negation, chain, compare, item as item_tree, Arguments, Code, nothing, quit, assign, choose, each, perform, Arms, no_arms, arm, Block, skip, code}
-use Rattle.sg_calls.specs.declared.fault.Fault.TheVariants.{WrongType}
-use Rattle.sg_calls.specs.Order.{Plain}
-use Rattle.sg_calls.specs.Kinds.{as_list}
+use Rattle.sg_rows.specs.declared.fault.Fault.TheVariants.{WrongType}
+use Rattle.sg_rows.specs.Order.{Plain}
+use Rattle.sg_rows.specs.Kinds.{as_list}
 use Rattle.sg_eval.specs.Process.{Process, gives, refuses, sets, writes, ◌>>=◌}
 use Rattle.sg_eval.specs.Expressions.{eval, eval_given, decided, listed}
 

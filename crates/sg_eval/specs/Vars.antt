@@ -2,7 +2,7 @@
 use Rattle.std.specs.Prelude.{ℕ, List, [], ◌∷◌, Option, if◌then◌else◌}
 use Rattle.std.specs.Map.{lookup}
 use Rattle.std.specs.Str.{bytes_eq}
-use Rattle.sg_calls.specs.Order.{Plain}
+use Rattle.sg_rows.specs.Order.{Plain}
 
 abbrev pub Vars : Type 0
 Vars = List (List ℕ × Plain)

@@ -4,7 +4,7 @@ ghost use Rattle.std.specs.Int.{w64};
 ghost use Rattle.std.specs.Prelude.{◌≡◌, ℕ, List, Option, Some, None, MatchOption, OnOk, IfOk, pos, ◌+ℤ◌, ◌<◌, FitsSigned, ◌-ℤ◌, ◌-◌, ◌^◌, min, ◌++◌, ◌∷◌, [], slice_get};
 ghost use Rattle.sg_value.specs.Plain.{AllKnown, AllKnownIn, contents, contents_of_all, plain, plain_of_all};
 ghost use Rattle.sg_value.specs.Data.{list, truth};
-ghost use Rattle.sg_calls.specs.Kinds.{as_list};
+ghost use Rattle.sg_rows.specs.Kinds.{as_list};
 ghost use Rattle.sg_eval.specs.Queries.{lists, negates, indexes, spans, span_count};
 ghost use Rattle.sg_eval.specs.Expressions.{ask, decided, listed};
 ghost use Rattle.sg_eval.specs.Process.{gives};

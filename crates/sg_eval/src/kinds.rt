@@ -2,7 +2,7 @@
 
 ghost use Rattle.std.specs.Prelude.{◌≡◌, None, Some, MatchOption};
 ghost use Rattle.sg_value.specs.Plain.{contents, contents_of_all};
-ghost use Rattle.sg_calls.specs.Kinds.{as_integer, as_list};
+ghost use Rattle.sg_rows.specs.Kinds.{as_integer, as_list};
 ghost use Rattle.sg_eval.specs.Truths.{as_truth};
 
 use sg_value::Value;

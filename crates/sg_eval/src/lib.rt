@@ -1,19 +1,30 @@
-//! What statements do, and the machine that is to do them.
+//! What statements do, and the machine that does them.
 //!
 //! `specs/` has the meaning of every expression and statement as a process, which runs over variables with plain
 //! values whatever the store keeps. `laws` says that each has at most one outcome. The machine keeps a store, the
-//! variables and the parameters of arrows; each of its steps below expressions gives just what the process of its
-//! form gives. Contracts see the machine as its state: the lists of the store, the variables and the parameters, all
-//! plain. The evaluation of whole expressions and statements over these steps is to come.
+//! variables and the parameters of arrows; contracts see it as its state: the lists of the store, the variables and
+//! the parameters, all plain.
+//!
+//! The layer above uses `Machine::step`: a statement ends as its process ends, with the same variables and the same
+//! text in the sink, or, where the sink failed or memory ran out, it was left at some point of its process.
 #![tactic(auto)]
 
 mod answers;
+mod eval;
+mod exec;
+mod folding;
 mod given;
 mod kinds;
 pub mod laws;
 mod links;
 mod machine;
 mod signs;
+mod step;
+mod step_fault;
+#[cfg(test)]
+mod tests;
 mod variable;
+mod variables;
 
 pub use machine::Machine;
+pub use step_fault::{Flow, StepFault};

@@ -1,23 +1,26 @@
 //! The machine that a script runs on.
 
-ghost use Rattle.sg_eval.specs.State.{AreKnown};
+ghost use Rattle.sg_eval.specs.State.{AreKnown, AreKnownIn};
 ghost use Rattle.sg_eval.specs.KnownFacts.{are_known-prop};
 
-use crate::variable::{Variable, find};
-use sg_calls::{CallFault, Fault, Operator, answer, combine};
+use crate::answers::index;
+use crate::variable::Variable;
+use crate::variables::{Variables, find_in, set};
+use indexmap::IndexMap;
+use sg_calls::{CallFault, Operator, answer, combine};
 use sg_nat::Bytes;
 use sg_store::Store;
-use sg_value::{Value, try_clone};
+use sg_value::{Value, print_into, try_clone};
 use std::alloc::{AllocError, Global};
 
 /// The semigroups that are known, the variables with their values, and the parameters of the arrows around.
 #[derive(Drop)]
 pub struct Machine {
     store: Store,
-    variables: Vec<Variable>,
+    variables: Variables,
     /// The nearest arrow's first; there are at most as many as expressions may nest.
     parameters: Vec<Variable>,
-    ghost known: { AreKnown store variables.items × AreKnown store parameters.items } by { are_known-prop store variables.items parameters.items },
+    ghost known: { AreKnownIn store variables.entries × AreKnown store parameters.items } by { are_known-prop store variables.entries parameters.items },
 }
 
 impl Machine {
@@ -26,11 +29,13 @@ impl Machine {
     ghost use Rattle.std.specs.Str.{bytes_eq};
     ghost use Rattle.sg_value.specs.Plain.{AllKnown, AllKnownIn, plain, plain_of_all};
     ghost use Rattle.sg_calls.specs.Commands.{checked};
-    ghost use Rattle.sg_calls.specs.Order.{Plain};
-    ghost use Rattle.sg_eval.specs.Vars.{Vars};
+    ghost use Rattle.sg_rows.specs.Order.{Plain};
+    ghost use Rattle.sg_eval.specs.Vars.{Vars, with_value};
+    ghost use Rattle.sg_eval.specs.Statements.{texts_of};
     ghost use Rattle.sg_eval.specs.Queries.{calls, combines};
     ghost use Rattle.sg_eval.specs.Expressions.{named, ask};
-    ghost use Rattle.sg_eval.specs.Outcomes.{Evaluates};
+    ghost use Rattle.sg_eval.specs.Outcomes.{Evaluates, Finds};
+    ghost use Rattle.sg_eval.specs.Linked.{entry_of, combined_with};
     ghost use Rattle.sg_eval.specs.Machine.{state_of};
 
     /// A machine over these semigroups, in which no variable has a value.
@@ -40,7 +45,7 @@ impl Machine {
     {
         Machine {
             store,
-            variables: Vec::new(alloc),
+            variables: IndexMap::new(alloc),
             parameters: Vec::new(alloc),
         }
     }
@@ -49,13 +54,42 @@ impl Machine {
     pub fn named(&self, alloc: Global, name: &[u8]) -> Result<Value, CallFault>
         ensures { Evaluates plain AllKnown result (state_of self.now) (state_of self.now) (λ names. named (lookup (bytes_eq name.now) (state_of self.now).parameters) name.now) }
     {
-        if let Some(value) = find(&self.parameters, name) {
-            return Ok(try_clone(value, alloc)?);
-        }
-        match find(&self.variables, name) {
-            Some(value) => Ok(try_clone(value, alloc)?),
-            None => Err(CallFault::Script(Fault::UnknownName)),
-        }
+        let value = find_in(&self.parameters, &self.variables, name)?;
+        Ok(try_clone(value, alloc)?)
+    }
+
+    /// Whether a parameter or a variable of this name has a value.
+    pub fn check_named(&self, name: &[u8]) -> Result<(), CallFault>
+        ensures { Finds result (state_of self.now) (λ names. named (lookup (bytes_eq name.now) (state_of self.now).parameters) name.now) }
+    {
+        find_in(&self.parameters, &self.variables, name)?;
+        Ok(())
+    }
+
+    /// An entry of the list of this name.
+    pub fn entry(&self, alloc: Global, name: &[u8], place: &Value) -> Result<Value, CallFault>
+        ensures { Evaluates plain AllKnown result (state_of self.now) (state_of self.now) (λ names. entry_of (state_of self.now).parameters name.now (plain names place.now)) }
+    {
+        index(
+            alloc,
+            find_in(&self.parameters, &self.variables, name)?,
+            place,
+        )
+    }
+
+    /// What an operator gives of a value and that of this name.
+    pub fn combine_named(
+        &mut self,
+        alloc: Global,
+        op: Operator,
+        a: &Value,
+        name: &[u8],
+    ) -> Result<Value, CallFault>
+        requires { AllKnown (slice_get (state_of self.old).names) a.now }
+        ensures { Evaluates plain AllKnown result (state_of self.old) (state_of self.new) (λ names. combined_with (state_of self.old).parameters op (plain names a.now) name.now) }
+    {
+        let b = find_in(&self.parameters, &self.variables, name)?;
+        combine(alloc, &mut self.store, op, a, b)
     }
 
     /// What a command answers.
@@ -107,5 +141,37 @@ impl Machine {
         ensures parameters { (p : List ℕ × Plain) (ps : Vars) → (state_of self.old).parameters ≡ p ∷ ps → (state_of self.new).parameters ≡ ps }
     {
         self.parameters.remove(0);
+    }
+
+    /// All parameters go.
+    pub fn clear(&mut self)
+        ensures names { (state_of self.new).names ≡ (state_of self.old).names }
+        ensures variables { (state_of self.new).variables ≡ (state_of self.old).variables }
+        ensures parameters { (state_of self.new).parameters ≡ [] }
+    {
+        self.parameters.clear();
+    }
+
+    /// A variable gets a value.
+    pub fn set(&mut self, alloc: Global, name: &Bytes, value: Value) -> Result<(), AllocError>
+        requires known { AllKnown (slice_get (state_of self.old).names) value }
+        ensures names { (state_of self.new).names ≡ (state_of self.old).names }
+        ensures ok { OnOk result ((state_of self.new).variables ≡ with_value name.now (plain (slice_get (state_of self.old).names) value) (state_of self.old).variables) }
+        ensures err { OnErr result ((state_of self.new).variables ≡ (state_of self.old).variables) }
+        ensures parameters { (state_of self.new).parameters ≡ (state_of self.old).parameters }
+    {
+        set(alloc, &mut self.variables, name.as_slice(), value)
+    }
+
+    /// The texts of the values, one after the other.
+    pub fn texts(&self, alloc: Global, values: &[Value]) -> Result<Bytes, AllocError>
+        requires known { AllKnownIn (slice_get (state_of self.now).names) values.now }
+        ensures { IfOk result (λ text. text ≡ texts_of (plain_of_all (slice_get (state_of self.now).names) values.now)) }
+    {
+        let mut text = Bytes::new(alloc);
+        for value in values {
+            print_into(value, &self.store, &mut text)?;
+        }
+        Ok(text)
     }
 }

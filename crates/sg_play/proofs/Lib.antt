@@ -1,2 +1,4 @@
 pub mod Turns
 pub mod Plays
+pub mod SomePlays
+pub mod Leaving

@@ -8,7 +8,7 @@ use Rattle.sg_cut.specs.declared.outcome.Piece.{Piece}
 use Rattle.sg_cut.specs.declared.outcome.Piece.TheVariants.{Statement, TooLong, Unfinished, End, Waiting}
 use Rattle.sg_cut.proofs.Outcomes.{same_outcome, statement-append, too_long-append, text-append, rest-append}
 use Rattle.sg_eval.specs.Vars.{Vars}
-use Rattle.sg_calls.specs.declared.fault.Fault.TheVariants as fault
+use Rattle.sg_rows.specs.declared.fault.Fault.TheVariants as fault
 use Rattle.sg_play.specs.Record.{Played, refused, waiting, marked, out, after_text, IsFrontOf}
 use Rattle.sg_play.specs.Play.{Turn, stops, goes, ends_at, Takes, PlaysFrom, last, next}
 use Rattle.sg_play.proofs.Turns.{takes-one, takes-same, waits-empty, waiting-waits}
@@ -20,7 +20,7 @@ line-append : (bytes more : List ℕ) (place : ℕ) → place ≤ length bytes �
 line-append bytes more place l = ap (λ xs. 1 + count_of_line_feeds xs) (take-append-le place bytes more l)
 
 -- the rest of a play, after the same statement with the same variables
-same-rest : (whole : Bool) (bytes : List ℕ) (passed feeds : ℕ) (end end' : ℕ) (vars vars' : Vars) (p : Played) → end' ≡ end → vars' ≡ vars →
+pub same-rest : (whole : Bool) (bytes : List ℕ) (passed feeds : ℕ) (end end' : ℕ) (vars vars' : Vars) (p : Played) → end' ≡ end → vars' ≡ vars →
     PlaysFrom whole (drop end' bytes) (passed + end') (feeds + count_of_line_feeds (take end' bytes)) vars' p →
     PlaysFrom whole (drop end bytes) (passed + end) (feeds + count_of_line_feeds (take end bytes)) vars p
 same-rest whole bytes passed feeds end end' vars vars' p e v d =

@@ -1,3 +1,4 @@
 pub mod Record
 pub mod Play
+pub mod Left
 pub mod Laws

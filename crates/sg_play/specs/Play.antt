@@ -4,8 +4,8 @@ use Rattle.sg_cut.specs.Cut.{Cut}
 use Rattle.sg_cut.specs.Lines.{count_of_line_feeds, line_of}
 use Rattle.sg_cut.specs.declared.outcome.Piece.{Piece}
 use Rattle.sg_cut.specs.declared.outcome.Piece.TheVariants.{Statement, TooLong, Unfinished, End, Waiting}
-use Rattle.sg_calls.specs.declared.fault.Fault.{Fault}
-use Rattle.sg_calls.specs.declared.fault.Fault.TheVariants as fault
+use Rattle.sg_rows.specs.declared.fault.Fault.{Fault}
+use Rattle.sg_rows.specs.declared.fault.Fault.TheVariants as fault
 use Rattle.sg_script.specs.Outcome.{Outcome, a_tree, too_deep, no_statement, IsReadAs}
 use Rattle.sg_eval.specs.Vars.{Vars}
 use Rattle.sg_eval.specs.Process.{Runs}

@@ -1,6 +1,6 @@
 -- What a run has written, and how it ended.
 use Rattle.std.specs.Prelude.{◌≡◌, ℕ, List, ◌++◌, map, Option}
-use Rattle.sg_calls.specs.declared.fault.Fault.{Fault}
+use Rattle.sg_rows.specs.declared.fault.Fault.{Fault}
 
 -- where a byte goes
 pub data Mark : Type 0 where

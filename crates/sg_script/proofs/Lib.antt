@@ -13,3 +13,8 @@ pub mod UniqueStatementLemmas
 pub mod WellFormedLemmas
 pub mod OutcomeLemmas
 pub mod ReaderLemmas
+pub mod SomeTokens
+pub mod Fronts
+pub mod SomeExpressions
+pub mod SomeStatements
+pub mod SomeOutcome

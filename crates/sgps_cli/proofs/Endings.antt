@@ -1,113 +1,148 @@
--- From what was played to how the run ends.
-use Rattle.std.proofs.Common.{◌≡◌, ℕ, ◌≤◌, List, [], ◌∷◌, ◌++◌, length, true, Option, Some, None, refl, sym, ap, subst, ◌∙◌, inl, inr, append_assoc, arith}
-use Rattle.std.specs.Prelude.{◌⊎◌, ◌==◌, codes}
+-- From what stood before the last line to how the run ends.
+use Rattle.std.proofs.Common.{◌≡◌, ℕ, List, [], ◌∷◌, ◌++◌, Option, Some, None, refl, sym, ap, subst, ◌∙◌, inl, inr, arith}
+use Rattle.std.specs.Prelude.{◌⊎◌, IsSome}
 use Rattle.std.specs.Io.KnownBytes.{append_known}
-use Rattle.std.proofs.lemmas.Grind.{common_steps}
-use Rattle.std.proofs.lemmas.List.{length-append, append-nil}
-use Rattle.sg_io.specs.Inputs.{Input, missing_after}
-use Rattle.sgps_cli.specs.Script.{IsScript}
-use Rattle.sgps_cli.specs.First.{Outcome, prints, refuses, First}
-use Rattle.sgps_cli.specs.Input.{HasStandardInput, IsTakenFrom}
-use Rattle.sgps_cli.specs.Ends.{Ends, Plays, PlaysInput, Prints, IsReportOf}
-use Rattle.sgps_cli.specs.declared.ending.Fault.TheVariants.{Syntax, BadArgument, TooLarge}
+use Rattle.std.proofs.lemmas.List.{append-nil}
+use Rattle.sg_io.specs.Faults.{Rose}
+use Rattle.sg_io.specs.Inputs.{Input, input_named}
+use Rattle.sg_rows.specs.declared.fault.Fault.{Fault}
+use Rattle.sg_play.specs.Record.{Played, Ending, marked, out, err, done, refused, waiting}
+use Rattle.sg_play.proofs.Plays.{one-play}
+use Rattle.sgps_cli.specs.Causes.{line_of}
+use Rattle.sgps_cli.specs.Settings.{Wanted}
+use Rattle.sgps_cli.specs.Input.{HasInput, IsInput}
+use Rattle.sgps_cli.specs.Settled.{Settled}
+use Rattle.sgps_cli.specs.Reports.{IsReport, told, failed, no_memory, IsFrontOfLine}
+use Rattle.sgps_cli.specs.Ends.{Seen, Taken, Wrote, Settles, out_bytes, err_bytes, Comes, IsEarly, telling, RunsOut, SinkFaults, FailsToWrite, Ends, Closes, closed, stopped, PlaysToEnd, EndsWell}
 use Rattle.sgps_cli.specs.declared.ending.Cause.{Cause}
 use Rattle.sgps_cli.specs.declared.ending.Cause.TheVariants as cause
 
-pub append-twice : (o : Option (List ℕ)) (a b : List ℕ) → append_known (append_known o a) b ≡ append_known o (a ++ b)
-append-twice None a b = refl
-append-twice (Some xs) a b = ap Some (append_assoc xs a b)
+-- the bytes of a text that goes to `out` and of one that goes to `err`
+out-of-err : (b : List ℕ) → out_bytes (marked err b) ≡ []
+out-of-err [] = refl
+out-of-err (x ∷ b) = out-of-err b
 
-pub no-words : {A : Type 0} (xs : List A) → (length xs == 0) ≡ true → xs ≡ []
-no-words [] h = refl
-no-words (x ∷ xs) h = absurd (grind (arith, common_steps))
+out-of-both : (a b : List ℕ) → out_bytes (marked out a ++ marked err b) ≡ a
+out-of-both [] b = out-of-err b
+out-of-both (x ∷ a) b = ap (λ r. x ∷ r) (out-of-both a b)
 
--- a script has at most 65,537 bytes
-script-short : (bytes ns : List ℕ) → IsScript bytes ns → length bytes ≤ 65537
-script-short bytes ns s = elim s.2 [
-  | inl e ↦ omega (arith, ap length e, s.1.1.short)
-  | inr e ↦ omega (arith, ap length e, length-append s.0 (codes "\n"), s.1.1.short)
-]
+err-of-err : (b : List ℕ) → err_bytes (marked err b) ≡ b
+err-of-err [] = refl
+err-of-err (x ∷ b) = ap (λ r. x ∷ r) (err-of-err b)
 
--- bytes past the longest script are all refused alike
-pub first-moves : (bytes b : List ℕ) (o : Outcome) → (bytes ≡ b) ⊎ (65538 ≤ length bytes) × (65538 ≤ length b) → First bytes o → First b o
-first-moves bytes b o (inl e) f = subst (λ c. First c o) e f
-first-moves bytes b (prints text) (inr l) f = absurd (omega (arith, l.0, script-short bytes f.0 f.1))
-first-moves bytes b (refuses Syntax) (inr l) f = λ ns s. absurd (omega (arith, l.1, script-short b ns s))
-first-moves bytes b (refuses BadArgument) (inr l) f = absurd (omega (arith, l.0, script-short bytes f.0 f.1))
-first-moves bytes b (refuses TooLarge) (inr l) f = absurd (omega (arith, l.0, script-short bytes f.0 f.1))
+err-of-both : (a b : List ℕ) → err_bytes (marked out a ++ marked err b) ≡ b
+err-of-both [] b = err-of-err b
+err-of-both (x ∷ a) b = err-of-both a b
 
--- what was played of the bytes taken is what the run ends with
-plays-ends : {Word : Type 0} (c : Cause) (bytes gained : List ℕ) (words : List Word) (inputs : Option (List Input)) →
-    words ≡ [] → IsTakenFrom inputs bytes → Plays c bytes gained → Ends c words inputs gained
-plays-ends cause.Ok bytes gained words inputs none t p = (none, (t.0, t.1, first-moves bytes t.0 (prints gained) t.2 p))
-plays-ends cause.Usage bytes gained words inputs none t p = absurd p
-plays-ends cause.ReadFault bytes gained words inputs none t p = absurd p
-plays-ends (cause.Script fault line) bytes gained words inputs none t p = (none, p.0, p.1, (t.0, t.1, first-moves bytes t.0 (refuses fault) t.2 p.2))
-plays-ends cause.WriteFault bytes gained words inputs none t (inl e) = inr (none, inl e)
-plays-ends cause.WriteFault bytes gained words inputs none t (inr p) = inr (none, inr (t.0, p.0, p.1, t.1, first-moves bytes t.0 (prints p.0) t.2 p.2, p.3))
-plays-ends cause.Memory bytes gained words inputs none t (inl e) = inr (none, inl e)
-plays-ends cause.Memory bytes gained words inputs none t (inr p) = inr (none, inr (t.0, p.0, p.1, t.1, first-moves bytes t.0 (prints p.0) t.2 p.2, p.3))
+-- what the two sinks gained is one record
+wrote : (old new : Taken) (text said : List ℕ) → new.on_out ≡ append_known old.on_out text → new.on_err ≡ append_known old.on_err said → Wrote old new (marked out text ++ marked err said)
+wrote old new text said o e = record {
+  out_gained = o ∙ ap (append_known old.on_out) (sym (out-of-both text said));
+  err_gained = e ∙ ap (append_known old.on_err) (sym (err-of-both text said));
+}
 
-pub plays-input : (c : Cause) (bytes gained : List ℕ) (inputs : Option (List Input)) → IsTakenFrom inputs bytes → Plays c bytes gained → PlaysInput c inputs gained
-plays-input cause.Ok bytes gained inputs t p = (bytes, t, p)
-plays-input cause.Usage bytes gained inputs t p = absurd p
-plays-input cause.ReadFault bytes gained inputs t p = absurd p
-plays-input (cause.Script fault line) bytes gained inputs t p = (bytes, t, p)
-plays-input cause.WriteFault bytes gained inputs t p = (bytes, t, p)
-plays-input cause.Memory bytes gained inputs t p = (bytes, t, p)
+-- nothing is a front of nothing alone
+front-of-none : (a b : List ℕ) → [] ≡ a ++ b → a ≡ []
+front-of-none [] b e = refl
+front-of-none (x ∷ a) b e = absurd (cc)
 
--- a play is no read fault
-pub play-reads : (c : Cause) (bytes gained : List ℕ) → Plays c bytes gained → c ≡ cause.ReadFault → ⊥
-play-reads c bytes gained p e = subst (λ d. Plays d bytes gained) e p
+module _ (seen : Seen) (old new : Taken) (f : SinkFaults) (text said : List ℕ) (on_out : new.on_out ≡ append_known old.on_out text) (on_err : new.on_err ≡ append_known old.on_err said) where
+  -- the line of a cause was written whole
+  told-whole : (c : Cause) → Comes c seen (marked out text) → said ≡ line_of c → Ends c seen old new f
+  told-whole cause.Ok h e = (marked out text, h, subst (λ s. Wrote old new (marked out text ++ marked err s)) e (wrote old new text said on_out on_err))
+  told-whole cause.Usage h e = (marked out text, h, subst (λ s. Wrote old new (marked out text ++ marked err s)) e (wrote old new text said on_out on_err))
+  told-whole cause.ReadFault h e = (marked out text, h, subst (λ s. Wrote old new (marked out text ++ marked err s)) e (wrote old new text said on_out on_err))
+  told-whole cause.Overlong h e = (marked out text, h, subst (λ s. Wrote old new (marked out text ++ marked err s)) e (wrote old new text said on_out on_err))
+  told-whole (cause.Script fault line) h e = (marked out text, h, subst (λ s. Wrote old new (marked out text ++ marked err s)) e (wrote old new text said on_out on_err))
+  told-whole cause.WriteFault h e = absurd h
+  told-whole cause.Memory h e = absurd h
 
-pub input-ends : {Word : Type 0} (c : Cause) (gained : List ℕ) (words : List Word) (inputs : Option (List Input)) → words ≡ [] → PlaysInput c inputs gained → Ends c words inputs gained
-input-ends cause.Ok gained words inputs none p = plays-ends cause.Ok p.0 gained words inputs none p.1 p.2
-input-ends cause.Usage gained words inputs none p = absurd p.2
-input-ends cause.ReadFault gained words inputs none p = (none, p)
-input-ends (cause.Script fault line) gained words inputs none p = plays-ends (cause.Script fault line) p.0 gained words inputs none p.1 p.2
-input-ends cause.WriteFault gained words inputs none p = plays-ends cause.WriteFault p.0 gained words inputs none p.1 p.2
-input-ends cause.Memory gained words inputs none p = plays-ends cause.Memory p.0 gained words inputs none p.1 p.2
+  -- a run that had written this text and this front of a line was stopped by `err`
+  stopped-by-err : IsEarly seen text said → Rose f.err_before f.err_after → FailsToWrite seen old new f
+  stopped-by-err early rose = (inr rose, inl (text, said, early, inr rose, wrote old new text said on_out on_err))
 
--- whatever ended the play, a fault of `err` keeps what `out` gained
-ends-stop : {Word : Type 0} (c : Cause) (words : List Word) (inputs : Option (List Input)) (gained : List ℕ) → Ends c words inputs gained → Ends cause.WriteFault words inputs gained
-ends-stop cause.Ok words inputs gained h = inr (h.0, inr (h.1.0, gained, [], h.1.1, h.1.2, sym (append-nil gained)))
-ends-stop cause.Usage words inputs gained h = inl h
-ends-stop cause.ReadFault words inputs gained h = inr (h.0, inl h.1)
-ends-stop (cause.Script fault line) words inputs gained h = inr (h.0, inl h.2)
-ends-stop cause.WriteFault words inputs gained h = h
-ends-stop cause.Memory words inputs gained h = h
+  -- a run that had written this text, and no line, was stopped by a sink
+  stopped-by-out : IsEarly seen text [] → said ≡ [] → Rose f.out_before f.out_after ⊎ Rose f.err_before f.err_after → FailsToWrite seen old new f
+  stopped-by-out early none rose = (rose, inl (text, [], early, inl refl, subst (λ s. Wrote old new (marked out text ++ marked err s)) none (wrote old new text said on_out on_err)))
 
-pub ends-report : {Word : Type 0} (c d : Cause) (before now : ℕ) (words : List Word) (inputs : Option (List Input)) (gained : List ℕ) →
-    IsReportOf c before now d → Ends c words inputs gained → Ends d words inputs gained
-ends-report c cause.Ok before now words inputs gained r h = subst (λ e. Ends e words inputs gained) (sym r) h
-ends-report c cause.Usage before now words inputs gained r h = subst (λ e. Ends e words inputs gained) (sym r) h
-ends-report c cause.ReadFault before now words inputs gained r h = subst (λ e. Ends e words inputs gained) (sym r) h
-ends-report c (cause.Script fault line) before now words inputs gained r h = subst (λ e. Ends e words inputs gained) (sym r) h
-ends-report c cause.WriteFault before now words inputs gained r h = ends-stop c words inputs gained h
-ends-report c cause.Memory before now words inputs gained r h = ends-stop c words inputs gained h
+  -- a run that had written this text ran out of memory, and wrote this front of that line
+  no-memory-then : IsEarly seen text [] → IsFrontOfLine cause.Memory said → RunsOut seen old new
+  no-memory-then early front = (text, [], said, front.0, early, front.1, wrote old new text said on_out on_err)
 
--- a printed text is played
-pub prints-plays : (c : Cause) (bytes text gained : List ℕ) → First bytes (prints text) → Prints c text gained → Plays c bytes gained
-prints-plays cause.Ok bytes text gained f p = subst (λ t. First bytes (prints t)) (sym p) f
-prints-plays cause.Usage bytes text gained f p = absurd p
-prints-plays cause.ReadFault bytes text gained f p = absurd p
-prints-plays (cause.Script fault line) bytes text gained f p = absurd p
-prints-plays cause.WriteFault bytes text gained f p = inr (text, p.0, f, p.1)
-prints-plays cause.Memory bytes text gained f p = inr (text, p.0, f, p.1)
+  -- a run that had written this text, and this front of a line, ran out of memory
+  no-memory-there : IsEarly seen text said → RunsOut seen old new
+  no-memory-there early = (text, said, [], line_of cause.Memory, early, refl, subst (λ s. Wrote old new (marked out text ++ marked err s)) (sym (append-nil said)) (wrote old new text said on_out on_err))
 
--- beginning standard input, where it is there, misses nothing
-pub missing-same : (inputs : Option (List Input)) (m : ℕ) → HasStandardInput inputs → missing_after inputs None m ≡ m
-missing-same None m h = refl
-missing-same (Some is') m h = grind (arith, common_steps, h)
+  reported : (c d : Cause) → Closes c seen text → IsReport c said f.err_before f.err_after d → (c ≡ cause.WriteFault → Rose f.out_before f.out_after) → Ends d seen old new f
+  reported c d (closed h) (told t) rose = subst (λ x. Ends x seen old new f) (sym t.same) (told-whole c h t.whole)
+  reported c d (closed h) (failed e front risen) rose = subst (λ x. Ends x seen old new f) (sym e) (stopped-by-err (telling c front.0 h front.1) risen)
+  reported c d (closed h) (no_memory e front) rose = subst (λ x. Ends x seen old new f) (sym e) (no-memory-there (telling c front.0 h front.1))
+  reported c d (stopped (inl w) early) (told t) rose =
+      subst (λ x. Ends x seen old new f) (sym (t.same ∙ w)) (stopped-by-out early (t.whole ∙ ap line_of w) (inl (rose w)))
+  reported c d (stopped (inr m) early) (told t) rose =
+      subst (λ x. Ends x seen old new f) (sym (t.same ∙ m)) (no-memory-then early ([], sym (ap line_of m) ∙ sym t.whole ∙ sym (append-nil said)))
+  reported c d (stopped (inl w) early) (failed e front risen) rose =
+      subst (λ x. Ends x seen old new f) (sym e) (stopped-by-out early (front-of-none said front.0 (sym (ap line_of w) ∙ front.1)) (inr risen))
+  reported c d (stopped (inr m) early) (failed e front risen) rose =
+      subst (λ x. Ends x seen old new f) (sym e) (inr risen, inr (risen, no-memory-then early (front.0, sym (ap line_of m) ∙ front.1)))
+  reported c d (stopped (inl w) early) (no_memory e front) rose =
+      let none = front-of-none said front.0 (sym (ap line_of w) ∙ front.1) in
+      subst (λ x. Ends x seen old new f) (sym e) (no-memory-there (subst (λ s. IsEarly seen text s) (sym none) early))
+  reported c d (stopped (inr m) early) (no_memory e front) rose =
+      subst (λ x. Ends x seen old new f) (sym e) (no-memory-then early (front.0, sym (ap line_of m) ∙ front.1))
 
--- texts written one after another
-pub written-twice : (old mid new : Option (List ℕ)) (a b : List ℕ) → mid ≡ append_known old a → new ≡ append_known mid b → new ≡ append_known old (a ++ b)
-written-twice old mid new a b e f = f ∙ ap (λ o. append_known o b) e ∙ append-twice old a b
+-- how a run ends, whatever came of its last line
+pub run-ends : (c d : Cause) (seen : Seen) (old new : Taken) (f : SinkFaults) (text said : List ℕ) → new.on_out ≡ append_known old.on_out text → new.on_err ≡ append_known old.on_err said →
+    Closes c seen text → IsReport c said f.err_before f.err_after d → (c ≡ cause.WriteFault → Rose f.out_before f.out_after) → Ends d seen old new f
+run-ends c d seen old new f text said o e h r rose = reported seen old new f text said o e c d h r rose
 
--- the five pieces of a fault's line
-pub line-written : (old new : Option (List ℕ)) (head number between name name' feed : List ℕ) → name ≡ name' →
-    new ≡ append_known old ((((head ++ number) ++ between) ++ name) ++ feed) → new ≡ append_known old (head ++ (number ++ (between ++ (name' ++ feed))))
-line-written old new head number between name name' feed e f =
-    f ∙ ap (append_known old) (
-    append_assoc ((head ++ number) ++ between) name feed ∙ append_assoc (head ++ number) between (name ++ feed)
-    ∙ append_assoc head number (between ++ (name ++ feed)) ∙ ap (λ n. head ++ (number ++ (between ++ (n ++ feed)))) e)
+some-same : {A : Type 0} (o : Option A) (x y : A) → o ≡ Some x → o ≡ Some y → x ≡ y
+some-same o x y e f = let h : Some x ≡ Some y = sym e ∙ f in cc
+
+-- the input that is told has the bytes that were read of it
+same-bytes : (inputs : Option (List Input)) (listed : List Input) (name : Option (List ℕ)) (b b' : List ℕ) → inputs ≡ Some listed → input_named name listed ≡ Some b → IsInput inputs name b' → b' ≡ b
+same-bytes inputs listed name b b' tells input read =
+    let there : IsInput (Some listed) name b' = subst (λ i. IsInput i name b') tells read in
+    some-same (input_named name listed) b' b there input
+
+-- a script that is played to its end comes to nothing else
+same-play : (seen : Seen) (p : Played) (q : PlaysToEnd seen.settings seen.inputs) → Settles seen p → p.ending ≡ done
+same-play seen p q s =
+    let wanted : s.1.wanted ≡ q.wanted = some-same seen.settings _ _ s.1.accepted q.accepted in
+    let read : IsInput seen.inputs q.wanted.file s.0 = subst (λ w. IsInput seen.inputs w.file s.0) wanted s.1.input in
+    let bytes : s.0 ≡ q.bytes = same-bytes seen.inputs q.listed q.wanted.file q.bytes s.0 q.told q.input read in
+    let play : p ≡ q.play = one-play (subst (λ b. Settled b p) bytes s.2) q.settled in
+    ap (λ x. x.ending) play ∙ q.ends
+
+none-accepted : {P : Type 0} (settings : Option Wanted) (w : Wanted) → settings ≡ None → settings ≡ Some w → P
+none-accepted settings w e f = absurd (let h : None ≡ Some w = sym e ∙ f in cc)
+
+refused-not-done : {P : Type 0} (f : Fault) (line : ℕ) (e : Ending) → e ≡ refused f line → e ≡ done → P
+refused-not-done f line e h k = absurd (let x : refused f line ≡ done = sym h ∙ k in cc)
+
+waiting-not-done : {P : Type 0} (e : Ending) → e ≡ waiting → e ≡ done → P
+waiting-not-done e h k = absurd (let x : waiting ≡ done = sym h ∙ k in cc)
+
+-- a script that is played to its end ends Ok, or for want of memory, where nothing failed
+pub ends-well : (c : Cause) (seen : Seen) (old new : Taken) (f : SinkFaults) → Ends c seen old new f → PlaysToEnd seen.settings seen.inputs →
+    (Rose seen.faults_before seen.faults_after → ⊥) → (Rose f.out_before f.out_after → ⊥) → (Rose f.err_before f.err_after → ⊥) → EndsWell c
+ends-well cause.Ok seen old new f h q s o e = inl refl
+ends-well cause.Usage seen old new f h q s o e = none-accepted seen.settings q.wanted h.1.0 q.accepted
+ends-well cause.ReadFault seen old new f h q s o e = absurd (s h.1.0)
+ends-well cause.Overlong seen old new f h q s o e = let p = h.1 in waiting-not-done p.0.ending p.2 (same-play seen p.0 q p.1)
+ends-well (cause.Script fault line) seen old new f h q s o e = let p = h.1 in refused-not-done fault line p.0.ending p.2 (same-play seen p.0 q p.1)
+ends-well cause.WriteFault seen old new f h q s o e = elim h.0 [ inl r ↦ absurd (o r) | inr r ↦ absurd (e r) ]
+ends-well cause.Memory seen old new f h q s o e = inr refl
+
+-- the input is there where it is told
+pub input-there : (settings : Option Wanted) (inputs : Option (List Input)) → PlaysToEnd settings inputs → HasInput settings inputs
+input-there settings inputs q =
+    subst (λ s. HasInput s inputs) (sym q.accepted) (subst (λ i. HasInput (Some q.wanted) i) (sym q.told) (is-there (input_named q.wanted.file q.listed) q.bytes q.input))
+  where
+    is-there : (o : Option (List ℕ)) (b : List ℕ) → o ≡ Some b → IsSome o
+    is-there None b e = absurd (let h : None ≡ Some b = e in cc)
+    is-there (Some x) b e = refl
+
+-- no count that stays 0 rose
+pub none-rose : (before now : ℕ) → before ≡ 0 → now ≡ 0 → Rose before now → ⊥
+none-rose before now e f r = omega arith

@@ -1,6 +1,7 @@
-pub mod Numerals
-pub mod Pieces
-pub mod Lines
-pub mod Same
 pub mod Taken
+pub mod Turning
+pub mod Executing
+pub mod Lines
+pub mod Concluding
+pub mod Settling
 pub mod Endings

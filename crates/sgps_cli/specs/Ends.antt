@@ -1,55 +1,140 @@
 -- How a run ends, and what it wrote by then.
-use Rattle.std.specs.Prelude.{◌≡◌, ℕ, ◌⊎◌, List, [], ◌++◌, Option}
+use Rattle.std.specs.Prelude.{◌≡◌, ℕ, ◌⊎◌, Bool, true, false, List, [], ◌∷◌, ◌++◌, take, Option, None, Some}
+use Rattle.std.specs.Io.KnownBytes.{append_known}
 use Rattle.sg_io.specs.Faults.{Rose}
-use Rattle.sg_io.specs.Inputs.{Input}
-use Rattle.sgps_cli.specs.First.{First, prints, refuses}
+use Rattle.sg_io.specs.Inputs.{Input, input_named}
+use Rattle.sg_play.specs.Record.{Record, out, err, marked, IsFrontOf, Played, done, refused, waiting}
+use Rattle.sg_play.specs.Play.{Play}
+use Rattle.sg_play.specs.Left.{IsLeft}
 use Rattle.sgps_cli.specs.Causes.{line_of}
+use Rattle.sgps_cli.specs.Settings.{Wanted}
+use Rattle.sgps_cli.specs.Input.{IsInput, IsTaken}
+use Rattle.sgps_cli.specs.Settled.{Settled, script_limit}
 use Rattle.sgps_cli.specs.declared.ending.Cause.{Cause}
 use Rattle.sgps_cli.specs.declared.ending.Cause.TheVariants as cause
-use Rattle.sgps_cli.specs.Input.{IsStandardInput, IsTakenFrom}
 
--- a front of what the script prints; a refused script prints nothing
-abbrev pub IsFront : Option (List Input) → List ℕ → Type 0
-IsFront inputs front = (front ≡ []) ⊎ ((b text rest : List ℕ) × IsStandardInput inputs b × First b (prints text) × (text ≡ front ++ rest))
+-- what a run was asked for, what its source told when it began, and how its source stood at the end
+pub record Seen : Type 0 where
+  pub settings : Option Wanted
+  pub inputs : Option (List Input)
+  pub begun : Bool
+  pub left : Option (List ℕ)
+  -- how often the source had failed when the run began, and when it ended
+  pub faults_before : ℕ
+  pub faults_after : ℕ
 
--- the condition of each cause, and what `out` gained
-abbrev pub Ends : Cause → {Word : Type 0} → List Word → Option (List Input) → List ℕ → Type 0
-Ends cause.Ok words inputs gained = (words ≡ []) × ((b : List ℕ) × IsStandardInput inputs b × First b (prints gained))
-Ends cause.Usage words inputs gained = (words ≡ [] → ⊥) × (gained ≡ [])
-Ends cause.ReadFault words inputs gained = (words ≡ []) × (gained ≡ [])
-Ends (cause.Script fault line) words inputs gained =
-    (words ≡ []) × (line ≡ 1) × (gained ≡ []) × ((b : List ℕ) × IsStandardInput inputs b × First b (refuses fault))
-Ends cause.WriteFault words inputs gained = (words ≡ [] → ⊥) × (gained ≡ []) ⊎ (words ≡ []) × IsFront inputs gained
-Ends cause.Memory words inputs gained = (words ≡ [] → ⊥) × (gained ≡ []) ⊎ (words ≡ []) × IsFront inputs gained
+-- what the two sinks have taken, as far as they tell it
+pub record Taken : Type 0 where
+  pub on_out : Option (List ℕ)
+  pub on_err : Option (List ℕ)
 
--- what `err` gained is the cause's line; after a write fault or for want of memory less may be there
-abbrev pub Says : Cause → List ℕ → Type 0
-Says cause.WriteFault said = Unit {0}
-Says cause.Memory said = Unit {0}
-Says c said = said ≡ line_of c
+-- the bytes of a record with a mark, in their order
+abbrev pub out_bytes : Record → List ℕ
+out_bytes [] = []
+out_bytes ((out, b) ∷ r) = b ∷ out_bytes r
+out_bytes ((err, b) ∷ r) = out_bytes r
 
--- what a run ends with after the line of a cause was written, or could not be: the cause, or a write fault, or want of memory
-abbrev pub IsReportOf : Cause → ℕ → ℕ → Cause → Type 0
-IsReportOf c before now cause.WriteFault = (c ≡ cause.WriteFault) ⊎ Rose before now
-IsReportOf c before now cause.Memory = Unit {0}
-IsReportOf c before now d = d ≡ c
+abbrev pub err_bytes : Record → List ℕ
+err_bytes [] = []
+err_bytes ((out, b) ∷ r) = err_bytes r
+err_bytes ((err, b) ∷ r) = b ∷ err_bytes r
 
--- how a text was printed: whole, or up to a fault
-abbrev pub Prints : Cause → List ℕ → List ℕ → Type 0
-Prints cause.Ok text gained = gained ≡ text
-Prints cause.WriteFault text gained = (rest : List ℕ) × (text ≡ gained ++ rest)
-Prints cause.Memory text gained = (rest : List ℕ) × (text ≡ gained ++ rest)
-Prints c text gained = ⊥
+-- `out` gained the bytes marked out and `err` those marked err, and neither gained more
+pub record Wrote (old new : Taken) (r : Record) : Type 0 where
+  pub out_gained : new.on_out ≡ append_known old.on_out (out_bytes r)
+  pub err_gained : new.on_err ≡ append_known old.on_err (err_bytes r)
 
--- how the script of these bytes was played
-abbrev pub Plays : Cause → List ℕ → List ℕ → Type 0
-Plays cause.Ok bytes gained = First bytes (prints gained)
-Plays (cause.Script fault line) bytes gained = (line ≡ 1) × (gained ≡ []) × First bytes (refuses fault)
-Plays cause.WriteFault bytes gained = (gained ≡ []) ⊎ ((text rest : List ℕ) × First bytes (prints text) × (text ≡ gained ++ rest))
-Plays cause.Memory bytes gained = (gained ≡ []) ⊎ ((text rest : List ℕ) × First bytes (prints text) × (text ≡ gained ++ rest))
-Plays c bytes gained = ⊥
+-- the source was begun, with the input b that the accepted words name
+pub record Reads (seen : Seen) (b : List ℕ) : Type 0 where
+  pub wanted : Wanted
+  pub accepted : seen.settings ≡ Some wanted
+  pub begun : seen.begun ≡ true
+  pub input : IsInput seen.inputs wanted.file b
 
--- how the script on standard input was played
-abbrev pub PlaysInput : Cause → Option (List Input) → List ℕ → Type 0
-PlaysInput cause.ReadFault inputs gained = gained ≡ []
-PlaysInput c inputs gained = (bytes : List ℕ) × IsTakenFrom inputs bytes × Plays c bytes gained
+-- the whole script came to this play
+abbrev pub Settles : Seen → Played → Type 0
+Settles seen p = (b : List ℕ) × Reads seen b × Settled b p
+
+-- the part of the input that was taken, played as if more may follow, waits for more
+pub record WaitsForMore (seen : Seen) (p : Played) : Type 0 where
+  pub wanted : Wanted
+  pub accepted : seen.settings ≡ Some wanted
+  pub begun : seen.begun ≡ true
+  pub bytes : List ℕ
+  pub taken : IsTaken seen.inputs wanted.file seen.left bytes
+  pub played : Play bytes false p
+  pub waits : p.ending ≡ waiting
+
+-- accepted words, with which the source was not begun
+abbrev pub CouldNotBegin : Seen → Type 0
+CouldNotBegin seen = ((wanted : Wanted) × (seen.settings ≡ Some wanted)) × (seen.begun ≡ false)
+
+-- the condition of a cause, and the record that stands before its line
+abbrev pub Comes : Cause → Seen → Record → Type 0
+Comes cause.Usage seen body = (seen.settings ≡ None) × (body ≡ [])
+Comes cause.Ok seen body = (p : Played) × Settles seen p × (p.ending ≡ done) × (body ≡ p.written)
+Comes (cause.Script fault line) seen body = (p : Played) × Settles seen p × (p.ending ≡ refused fault line) × (body ≡ p.written)
+Comes cause.Overlong seen body = (p : Played) × Settles seen p × (p.ending ≡ waiting) × (body ≡ p.written)
+Comes cause.ReadFault seen body =
+    Rose seen.faults_before seen.faults_after × (CouldNotBegin seen × (body ≡ []) ⊎ ((p : Played) × WaitsForMore seen p × (body ≡ p.written)))
+Comes cause.WriteFault seen body = ⊥
+Comes cause.Memory seen body = ⊥
+
+-- the whole record of a cause: its line follows what stands before it
+abbrev pub full : Cause → Record → Record
+full c body = body ++ marked err (line_of c)
+
+-- A run that was stopped had written this text, while its script was played, and this front of a last line. The text is
+-- a front of what the whole script writes, for every play that the script has. There is at most one, and that there
+-- always is one is no part of this definition: so it also says what was played, whole statements and a part of one.
+pub data IsEarly (seen : Seen) : List ℕ → List ℕ → Type 0 where
+  nothing : IsEarly seen [] []
+  playing : {text : List ℕ} (b : List ℕ) → Reads seen b → IsLeft (take script_limit b) text
+      → ((p : Played) → Settled b p → IsFrontOf (marked out text) p.written) → IsEarly seen text []
+  telling : {text said : List ℕ} (c : Cause) (rest : List ℕ) → Comes c seen (marked out text) → line_of c ≡ said ++ rest → IsEarly seen text said
+
+-- a run that was stopped wrote what it had written, and a front of the line for want of memory
+abbrev pub RunsOut : Seen → Taken → Taken → Type 0
+RunsOut seen old new =
+    (text said line rest : List ℕ) × IsEarly seen text said × (line_of cause.Memory ≡ line ++ rest) × Wrote old new (marked out text ++ marked err (said ++ line))
+
+-- how often the sinks had failed when a run began, and when it ended
+pub record SinkFaults : Type 0 where
+  pub out_before : ℕ
+  pub out_after : ℕ
+  pub err_before : ℕ
+  pub err_after : ℕ
+
+-- a sink failed; a part of a last line is there only where `err` failed, and so is a line for want of memory
+abbrev pub FailsToWrite : Seen → Taken → Taken → SinkFaults → Type 0
+FailsToWrite seen old new f =
+    (Rose f.out_before f.out_after ⊎ Rose f.err_before f.err_after)
+    × (((text said : List ℕ) × IsEarly seen text said × ((said ≡ []) ⊎ Rose f.err_before f.err_after) × Wrote old new (marked out text ++ marked err said))
+    ⊎ (Rose f.err_before f.err_after × RunsOut seen old new))
+
+-- how a run ends: with the whole record of its cause, or stopped by a sink or for want of memory
+abbrev pub Ends : Cause → Seen → Taken → Taken → SinkFaults → Type 0
+Ends cause.WriteFault seen old new f = FailsToWrite seen old new f
+Ends cause.Memory seen old new f = RunsOut seen old new
+Ends c seen old new f = (body : Record) × Comes c seen body × Wrote old new (full c body)
+
+-- how a run ends before its last line is written: with the text that stands before the line of its cause, or stopped
+pub data Closes (c : Cause) (seen : Seen) (text : List ℕ) : Type 0 where
+  closed : Comes c seen (marked out text) → Closes c seen text
+  stopped : (c ≡ cause.WriteFault) ⊎ (c ≡ cause.Memory) → IsEarly seen text [] → Closes c seen text
+
+-- the source tells the input that the words name, and the script in it is played to its end
+pub record PlaysToEnd (settings : Option Wanted) (inputs : Option (List Input)) : Type 0 where
+  pub wanted : Wanted
+  pub accepted : settings ≡ Some wanted
+  pub listed : List Input
+  pub told : inputs ≡ Some listed
+  pub bytes : List ℕ
+  pub input : input_named wanted.file listed ≡ Some bytes
+  pub play : Played
+  pub settled : Settled bytes play
+  pub ends : play.ending ≡ done
+
+-- Ok, or want of memory
+abbrev pub EndsWell : Cause → Type 0
+EndsWell c = (c ≡ cause.Ok) ⊎ (c ≡ cause.Memory)

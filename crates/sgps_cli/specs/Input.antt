@@ -1,15 +1,19 @@
--- Standard input, as a source may tell it.
-use Rattle.std.specs.Prelude.{◌≡◌, ℕ, ◌≤◌, ◌⊎◌, List, length, Option, None, Some, IfSome, IsSome}
+-- The input that the words name, as a source may tell it.
+use Rattle.std.specs.Prelude.{◌≡◌, ℕ, ◌++◌, List, Option, Some, None, IfSome, IsSome, ⊤}
 use Rattle.sg_io.specs.Inputs.{Input, input_named}
+use Rattle.sgps_cli.specs.Settings.{Wanted}
 
--- b are the bytes of standard input, where the source tells its inputs
-abbrev pub IsStandardInput : Option (List Input) → List ℕ → Type 0
-IsStandardInput inputs b = IfSome inputs (λ is. input_named None is ≡ Some b)
+-- b are the bytes of the input of this name, where the source tells its inputs
+abbrev pub IsInput : Option (List Input) → Option (List ℕ) → List ℕ → Type 0
+IsInput inputs name b = IfSome inputs (λ is. input_named name is ≡ Some b)
 
--- standard input is there, where the source tells its inputs
-abbrev pub HasStandardInput : Option (List Input) → Type 0
-HasStandardInput inputs = IfSome inputs (λ is. IsSome (input_named None is))
+-- the input that the words name is there, where the source tells its inputs; refused words name none
+abbrev pub HasInput : Option Wanted → Option (List Input) → Type 0
+HasInput None inputs = ⊤
+HasInput (Some wanted) inputs = IfSome inputs (λ is. IsSome (input_named wanted.file is))
 
--- these bytes are standard input, or both have more bytes than any script
-abbrev pub IsTakenFrom : Option (List Input) → List ℕ → Type 0
-IsTakenFrom inputs bytes = (b : List ℕ) × IsStandardInput inputs b × ((bytes ≡ b) ⊎ (65538 ≤ length bytes) × (65538 ≤ length b))
+-- t is the part of the input that is not left, where the source tells its inputs
+pub record IsTaken (inputs : Option (List Input)) (name left : Option (List ℕ)) (t : List ℕ) : Type 0 where
+  pub rest : List ℕ
+  pub input : IsInput inputs name (t ++ rest)
+  pub left_over : IfSome left (λ bytes. bytes ≡ rest)

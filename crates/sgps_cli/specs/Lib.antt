@@ -1,5 +1,10 @@
-pub mod Script
-pub mod First
 pub mod Causes
+pub mod Settings
+pub mod Words
 pub mod Input
+pub mod Settled
+pub mod Extents
+pub mod Playing
+pub mod Concludes
+pub mod Reports
 pub mod Ends

@@ -1,25 +1,18 @@
 //! How a run ends.
 
-/// Why a statement is refused.
-#[derive(Clone, Copy, Debug, PartialEq, Eq)]
-pub enum Fault {
-    /// The bytes are no statement.
-    Syntax,
-    /// The numbers generate no numerical semigroup.
-    BadArgument,
-    /// A number passes a limit.
-    TooLarge,
-}
+use sg_calls::Fault;
 
 /// Why a run ended.
 #[derive(Clone, Copy, Debug, PartialEq, Eq)]
 pub enum Cause {
-    /// The script ran to its end.
+    /// The script ran to its end, or to `quit;`.
     Ok,
     /// The words are not accepted.
     Usage,
-    /// The source failed.
+    /// The source failed, and no statement inside the bytes read ends the run.
     ReadFault,
+    /// As many bytes were taken as a script may have, and no statement inside them ends the run.
+    Overlong,
     /// A sink failed.
     WriteFault,
     /// A statement was refused.
@@ -42,22 +35,6 @@ pub struct Ending {
     pub cause: Cause,
 }
 
-impl Fault {
-    ghost use Rattle.std.specs.Prelude.{◌≡◌};
-    ghost use Rattle.sgps_cli.specs.Causes.{name_of};
-
-    /// The fault's name, as it is printed.
-    pub fn name(&self) -> &'static [u8]
-        ensures { result.now ≡ name_of self.now }
-    {
-        match self {
-            Fault::Syntax => b"Syntax",
-            Fault::BadArgument => b"BadArgument",
-            Fault::TooLarge => b"TooLarge",
-        }
-    }
-}
-
 impl Cause {
     ghost use Rattle.std.specs.Prelude.{◌≡◌};
     ghost use Rattle.sgps_cli.specs.Causes.{status_of};
@@ -70,9 +47,32 @@ impl Cause {
             Cause::Ok => 0,
             Cause::Script { .. } => 1,
             Cause::Usage => 2,
-            Cause::ReadFault => 3,
+            Cause::ReadFault | Cause::Overlong => 3,
             Cause::WriteFault => 4,
             Cause::Memory => 5,
         }
+    }
+}
+
+ghost use Rattle.std.specs.Prelude.{◌≡◌};
+ghost use Rattle.sgps_cli.specs.Causes.{name_of};
+
+/// The name of a fault, as it is printed.
+pub fn fault_name(fault: Fault) -> &'static [u8]
+    ensures { result.now ≡ name_of fault }
+{
+    match fault {
+        Fault::Syntax => b"Syntax",
+        Fault::TooLong => b"TooLong",
+        Fault::UnknownName => b"UnknownName",
+        Fault::WrongType => b"WrongType",
+        Fault::WrongCount => b"WrongCount",
+        Fault::Overflow => b"Overflow",
+        Fault::BadArgument => b"BadArgument",
+        Fault::TooLarge => b"TooLarge",
+        Fault::TooMany => b"TooMany",
+        Fault::IndexOut => b"IndexOut",
+        Fault::Budget => b"Budget",
+        Fault::Depth => b"Depth",
     }
 }

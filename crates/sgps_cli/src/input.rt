@@ -1,48 +1,132 @@
-//! Standard input, as far as a script can reach.
+//! The bytes of the input, as many as a script may have.
 
-ghost use Rattle.std.specs.Prelude.{◌≡◌, ◌<◌, ◌≤◌, ℕ, List, [], true, false, length, take, IfOk, IfSome, None};
+ghost use Rattle.std.specs.Prelude.{◌≡◌, ◌+◌, ◌<◌, ◌≤◌, ℕ, List, [], true, length, take, vec_len, Ok, Err, IfSome};
 ghost use Rattle.std.specs.Io.KnownBytes.{prepend_known};
-ghost use Rattle.sg_io.specs.Faults.{HasCause};
-ghost use Rattle.sg_io.specs.Inputs.{missing_after};
-ghost use Rattle.sgps_cli.specs.Input.{IsTakenFrom};
+ghost use Rattle.sg_io.specs.Faults.{Rose};
+ghost use Rattle.sgps_cli.specs.Extents.{IsExtent};
 
-use sg_io::{Failed, Source};
-/// No script has as many bytes: a line has at most 65,536, and one line feed may follow.
-pub const READ_LIMIT: usize = 65_538;
+use sg_io::Source;
+use std::alloc::AllocError;
 
-/// Begins standard input, takes its bytes into the buffer, and says how many.
-pub fn take_input<S: Source>(source: &mut S, buffer: &mut [u8]) -> Result<usize, Failed>
-    requires begun { S.begun source.old ≡ false }
-    requires room { length buffer.old ≡ 65538 }
-    ensures within { IfOk result (λ held. held ≤ length buffer.new) }
-    ensures taken { IfOk result (λ held. IsTakenFrom (S.inputs source.old) (take held buffer.new)) }
-    ensures cause { HasCause (S.faults source.old) (S.faults source.new) result }
-    ensures missing { S.missing source.new ≡ missing_after (S.inputs source.old) None (S.missing source.old) }
-    ensures inputs { S.inputs source.new ≡ S.inputs source.old }
-    ensures sure { S.sure source.new ≡ S.sure source.old }
-{
-    source.begin(None)?;
-    fill(source, buffer)
+/// So many bytes of a script are taken at most.
+pub const SCRIPT_LIMIT: usize = 268_435_456;
+
+/// The room for the first piece; each further piece doubles what is held.
+const FIRST_ROOM: usize = 65_536;
+
+/// How far the input was taken.
+#[derive(Clone, Copy, PartialEq, Eq, Debug)]
+pub enum Extent {
+    /// To its end, with fewer bytes than a script may have.
+    Whole,
+    /// As many bytes as a script may have.
+    Limit,
+    /// Up to a fault of the source.
+    Fault,
 }
 
-/// Fills the buffer from its front, and says how far the input went.
-fn fill<S: Source>(source: &mut S, buffer: &mut [u8]) -> Result<usize, Failed>
-    requires { S.begun source.old ≡ true }
-    ensures within { IfOk result (λ held. held ≤ length buffer.new) }
-    ensures taken { IfOk result (λ held. S.left source.old ≡ prepend_known (take held buffer.new) (S.left source.new)) }
-    ensures whole { IfOk result (λ held. held < length buffer.new → IfSome (S.left source.new) (λ rest. rest ≡ [])) }
-    ensures cause { HasCause (S.faults source.old) (S.faults source.new) result }
+/// Why a buffer was not filled further.
+#[derive(Clone, Copy, PartialEq, Eq, Debug)]
+enum Stop {
+    /// It is full.
+    Full,
+    /// The input has no further byte.
+    End,
+    /// The source failed.
+    Fault,
+}
+
+/// How far a buffer was filled.
+#[derive(Clone, Copy)]
+struct Filled {
+    /// How many bytes are held in its front.
+    held: usize,
+    /// Why there are no more.
+    stop: Stop,
+}
+
+/// Takes the bytes of an input that was begun, up to the limit.
+pub fn take_input<S: Source>(source: &mut S, bytes: &mut Vec<u8>) -> Result<Extent, AllocError>
+    requires begun { S.begun source.old ≡ true }
+    requires room { vec_len bytes.old < 268435456 }
+    ensures taken { prepend_known bytes.old.items (S.left source.old) ≡ prepend_known bytes.new.items (S.left source.new) }
+    ensures within { length bytes.new.items ≤ 268435456 }
+    ensures extent { IsExtent result (length bytes.new.items) (S.left source.new) }
+    ensures later { S.faults source.old ≤ S.faults source.new }
+    ensures cause { result ≡ Ok Extent.Fault → Rose (S.faults source.old) (S.faults source.new) }
+    ensures begun { S.begun source.new ≡ true }
     ensures missing { S.missing source.new ≡ S.missing source.old }
     ensures inputs { S.inputs source.new ≡ S.inputs source.old }
     ensures sure { S.sure source.new ≡ S.sure source.old }
 {
-    let mut held = 0;
+    while bytes.len() < SCRIPT_LIMIT {
+        match take_piece(source, bytes)? {
+            Stop::Full => {}
+            Stop::End => return Ok(Extent::Whole),
+            Stop::Fault => return Ok(Extent::Fault),
+        }
+    }
+    Ok(Extent::Limit)
+}
+
+/// Takes a further piece, at most as large as what is held or as the first room.
+fn take_piece<S: Source>(source: &mut S, bytes: &mut Vec<u8>) -> Result<Stop, AllocError>
+    requires begun { S.begun source.old ≡ true }
+    requires room { vec_len bytes.old < 268435456 }
+    ensures taken { prepend_known bytes.old.items (S.left source.old) ≡ prepend_known bytes.new.items (S.left source.new) }
+    ensures within { vec_len bytes.new ≤ 268435456 }
+    ensures grows { result ≡ Ok Stop.Full → vec_len bytes.old < vec_len bytes.new }
+    ensures end { result ≡ Ok Stop.End → IfSome (S.left source.new) (λ rest. rest ≡ []) }
+    ensures below { result ≡ Ok Stop.End → vec_len bytes.new < 268435456 }
+    ensures later { S.faults source.old ≤ S.faults source.new }
+    ensures cause { result ≡ Ok Stop.Fault → Rose (S.faults source.old) (S.faults source.new) }
+    ensures begun { S.begun source.new ≡ true }
+    ensures missing { S.missing source.new ≡ S.missing source.old }
+    ensures inputs { S.inputs source.new ≡ S.inputs source.old }
+    ensures sure { S.sure source.new ≡ S.sure source.old }
+{
+    let held = bytes.len();
+    let room = (held * 2).max(FIRST_ROOM).min(SCRIPT_LIMIT);
+    bytes.resize(room, 0)?;
+    let filled = fill(source, bytes, held);
+    bytes.truncate(filled.held);
+    Ok(filled.stop)
+}
+
+/// Fills the buffer behind the bytes that it holds.
+fn fill<S: Source>(source: &mut S, buffer: &mut [u8], from: usize) -> Filled
+    requires begun { S.begun source.old ≡ true }
+    requires holds { from ≤ length buffer.old }
+    ensures taken { prepend_known (take from buffer.old) (S.left source.old) ≡ prepend_known (take result.held buffer.new) (S.left source.new) }
+    ensures within { result.held ≤ length buffer.new }
+    ensures full { result.stop ≡ Stop.Full → result.held ≡ length buffer.new }
+    ensures end { result.stop ≡ Stop.End → IfSome (S.left source.new) (λ rest. rest ≡ []) }
+    ensures below { result.stop ≡ Stop.End → result.held < length buffer.new }
+    ensures later { S.faults source.old ≤ S.faults source.new }
+    ensures cause { result.stop ≡ Stop.Fault → Rose (S.faults source.old) (S.faults source.new) }
+    ensures begun { S.begun source.new ≡ true }
+    ensures missing { S.missing source.new ≡ S.missing source.old }
+    ensures inputs { S.inputs source.new ≡ S.inputs source.old }
+    ensures sure { S.sure source.new ≡ S.sure source.old }
+{
+    let mut held = from;
     while held < buffer.len() {
-        let count = source.read(&mut buffer[held..])?;
+        let Ok(count) = source.read(&mut buffer[held..]) else {
+            return Filled {
+                held,
+                stop: Stop::Fault,
+            };
+        };
         if count == 0 {
-            return Ok(held);
+            return Filled {
+                held,
+                stop: Stop::End,
+            };
         }
         held += count;
     }
-    Ok(held)
+    Filled {
+        held,
+        stop: Stop::Full,
+    }
 }

@@ -1,19 +1,22 @@
 //! The program as one call, from the words of its command line and the bytes of its source to its ending.
 //!
-//! `run` is the headline: what it printed is what the definitions of the theory say of its script, and each ending
-//! has its cause. The script is one line that prints one Frobenius number (`specs/Script.antt`); `First` in
-//! `specs/First.antt` says what it prints or why it is refused, over the whole semigroup, and `Ends` in
-//! `specs/Ends.antt` ties that to the ending and to what the sinks gained.
+//! `run` is the headline: all that it wrote is what the definitions say of its whole script, over the whole infinite
+//! semigroup, and each ending has its cause. Contracts see a run as the record that it wrote, bytes for `out` and for
+//! `err`. `specs/Settled` has what a whole script comes to, by the play of `sg_play`; `specs/Ends` has the condition of
+//! each cause, the full record of each, and what a run wrote that a sink or want of memory stopped.
 #![tactic(auto)]
 
-mod answer;
+mod conclude;
 mod ending;
 mod input;
-mod line;
+mod play;
 mod program;
 mod report;
+mod settle;
 #[cfg(test)]
 mod tests;
+mod words;
 
-pub use ending::{Cause, Ending, Fault};
+pub use ending::{Cause, Ending};
 pub use program::run;
+pub use sg_calls::Fault;

@@ -2,9 +2,9 @@ use Rattle.std.proofs.Common.{◌+ℤ◌, ◌-ℤ◌, ◌*ℤ◌, Ok, sym, subst
 use Rattle.std.specs.Prelude.{FitsSigned, SomeIff, ◌<ℤ◌, ◌≤ℤ◌}
 use Rattle.std.specs.Int.{w64}
 use Rattle.sg_calls.specs.Operations.{calculation}
-use Rattle.sg_calls.specs.Answers.{Replies}
-use Rattle.sg_calls.proofs.Replying.{replies_truth}
-use Rattle.sg_calls.proofs.Signed.{of_bits}
+use Rattle.sg_rows.specs.Replies.{Replies}
+use Rattle.sg_rows.proofs.Replying.{replies_truth}
+use Rattle.sg_rows.proofs.Signed.{of_bits}
 use Rattle.sg_calls.proofs.operations.calculate.Goals as goal
 
 pub returns-in-Plus : goal.returns-in-Plus

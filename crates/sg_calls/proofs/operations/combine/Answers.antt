@@ -1,8 +1,8 @@
 use Rattle.std.proofs.Common.{◌≡◌, Ok, sym, subst, slice_get}
 use Rattle.sg_value.specs.Plain.{plain}
 use Rattle.sg_calls.specs.Operations.{operation}
-use Rattle.sg_calls.specs.Answers.{Replies}
-use Rattle.sg_calls.proofs.Replying.{replies_truth, decides_not}
+use Rattle.sg_rows.specs.Replies.{Replies}
+use Rattle.sg_rows.proofs.Replying.{replies_truth, decides_not}
 use Rattle.sg_calls.proofs.operations.combine.Goals as goal
 
 pub returns-in-Eq-clause-reply : goal.returns-in-Eq-clause-reply

@@ -3,11 +3,11 @@ use Rattle.std.specs.Prelude.{FitsSigned, SomeIff}
 use Rattle.std.specs.Int.{w64}
 use Rattle.sg_value.specs.Data.{int}
 use Rattle.sg_value.specs.Plain.{contents, generators_at}
-use Rattle.sg_calls.specs.Order.{fits}
-use Rattle.sg_calls.specs.Kinds.{given, answers}
-use Rattle.sg_calls.specs.Answers.{Replies}
-use Rattle.sg_calls.proofs.Replying.{as_integer-plain}
-use Rattle.sg_calls.proofs.Signed.{of_bits_right}
+use Rattle.sg_rows.specs.Order.{fits}
+use Rattle.sg_rows.specs.Kinds.{given, answers}
+use Rattle.sg_rows.specs.Replies.{Replies}
+use Rattle.sg_rows.proofs.Replying.{as_integer-plain}
+use Rattle.sg_rows.proofs.Signed.{of_bits_right}
 use Rattle.sg_calls.proofs.operations.negate.Goals as goal
 
 pub returns : goal.returns

@@ -7,10 +7,10 @@ use Rattle.sg_value.specs.Data.{int}
 use Rattle.sg_value.specs.declared.value.Value.{Value}
 use Rattle.sg_value.specs.declared.value.Value.TheVariants as value
 use Rattle.sg_calls.specs.Words.{IsRemainder}
-use Rattle.sg_calls.specs.Kinds.{answers, an_integer}
-use Rattle.sg_calls.proofs.Replying.{replies_integer, contents-Int}
+use Rattle.sg_rows.specs.Kinds.{answers, an_integer}
+use Rattle.sg_rows.proofs.Replying.{replies_integer, contents-Int}
 use Rattle.sg_calls.proofs.Remainders.{remainder_is}
-use Rattle.sg_calls.proofs.Signed.{of_bits}
+use Rattle.sg_rows.proofs.Signed.{of_bits}
 use Rattle.sg_calls.proofs.operations.remainder.Goals as goal
 
 pub returns : goal.returns

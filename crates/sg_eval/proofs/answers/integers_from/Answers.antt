@@ -4,7 +4,7 @@ use Rattle.std.specs.Int.{w64}
 use mir.Val.{to_z, of_z}
 use Rattle.std.proofs.lemmas.Int.{to_z-of_z, to_z_pos}
 use Rattle.sg_value.specs.Data.{int}
-use Rattle.sg_calls.proofs.Replying.{contents-Int}
+use Rattle.sg_rows.proofs.Replying.{contents-Int}
 use Rattle.sg_eval.proofs.Spanned.{integers_pushed}
 use Rattle.sg_eval.proofs.answers.integers_from.Goals as goal
 

@@ -3,12 +3,12 @@ use Rattle.sg_value.specs.Data.{list}
 use Rattle.sg_value.specs.Plain.{AllKnown, AllKnownIn, plain, plain_of_all}
 use Rattle.sg_value.specs.declared.value.Value.{Value}
 use Rattle.sg_value.specs.declared.value.Value.TheVariants as value
-use Rattle.sg_calls.specs.Order.{IsReply, fits}
-use Rattle.sg_calls.specs.Kinds.{answers}
-use Rattle.sg_calls.specs.Answers.{Replies}
-use Rattle.sg_calls.specs.declared.fault.CallFault.{CallFault}
-use Rattle.sg_calls.specs.declared.fault.CallFault.TheVariants.{Script}
-use Rattle.sg_calls.specs.declared.fault.Fault.TheVariants.{Depth, TooLarge}
+use Rattle.sg_rows.specs.Order.{IsReply, fits}
+use Rattle.sg_rows.specs.Kinds.{answers}
+use Rattle.sg_rows.specs.Replies.{Replies}
+use Rattle.sg_rows.specs.declared.fault.CallFault.{CallFault}
+use Rattle.sg_rows.specs.declared.fault.CallFault.TheVariants.{Script}
+use Rattle.sg_rows.specs.declared.fault.Fault.TheVariants.{Depth, TooLarge}
 use Rattle.sg_eval.specs.Expressions.{ask}
 use Rattle.sg_eval.specs.Outcomes.{Evaluates}
 use Rattle.sg_eval.specs.State.{State}

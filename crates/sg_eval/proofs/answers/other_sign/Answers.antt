@@ -1,6 +1,6 @@
 use Rattle.std.proofs.Common.{slice_get, refl, sym, subst}
 use Rattle.sg_value.specs.Plain.{plain}
-use Rattle.sg_calls.specs.Order.{IsReply}
+use Rattle.sg_rows.specs.Order.{IsReply}
 use Rattle.sg_calls.specs.Operations.{negation}
 use Rattle.sg_eval.specs.Queries.{negates}
 use Rattle.sg_eval.proofs.Evaluating.{evaluates_reply, keeps_all, plain_later}

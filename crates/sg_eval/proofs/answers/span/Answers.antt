@@ -2,7 +2,7 @@ use Rattle.std.proofs.Common.{◌≡◌, ◌-ℤ◌, ◌-◌, ◌^◌, min, sym,
 use Rattle.std.specs.Prelude.{FitsSigned}
 use Rattle.std.specs.Int.{w64}
 use Rattle.sg_value.specs.Plain.{contents_of_all}
-use Rattle.sg_calls.proofs.Signed.{of_bits, of_bits_right}
+use Rattle.sg_rows.proofs.Signed.{of_bits, of_bits_right}
 use Rattle.sg_eval.specs.Entries.{integers_in}
 use Rattle.sg_eval.specs.Queries.{span_count}
 use Rattle.sg_eval.proofs.Spanned.{span_low, span_high, span_large, span_fine}

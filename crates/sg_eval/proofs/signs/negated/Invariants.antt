@@ -1,7 +1,7 @@
 use Rattle.std.proofs.Common.{◌-◌, Result, slice_get}
 use Rattle.sg_value.specs.Plain.{AllKnown, plain}
 use Rattle.sg_value.specs.declared.value.Value.{Value}
-use Rattle.sg_calls.specs.declared.fault.CallFault.{CallFault}
+use Rattle.sg_rows.specs.declared.fault.CallFault.{CallFault}
 use Rattle.sg_eval.specs.Expressions.{negated}
 use Rattle.sg_eval.specs.Outcomes.{Evaluates}
 use Rattle.sg_eval.specs.State.{State}

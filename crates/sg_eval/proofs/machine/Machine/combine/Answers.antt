@@ -1,9 +1,10 @@
 use Rattle.std.proofs.Common.{slice_get, sym, subst}
 use Rattle.sg_value.specs.Plain.{plain}
 use Rattle.sg_calls.specs.Operations.{operation}
-use Rattle.sg_calls.specs.Order.{IsReply}
+use Rattle.sg_rows.specs.Order.{IsReply}
 use Rattle.sg_eval.specs.Machine.{state_of}
-use Rattle.sg_eval.specs.State.{vars_of}
+use Rattle.sg_eval.specs.State.{vars_of, values_of}
+use Rattle.sg_eval.proofs.Named.{known_in_later, values_later}
 use Rattle.sg_eval.specs.Queries.{combines}
 use Rattle.sg_eval.proofs.Evaluating.{evaluates_reply, keeps_then, plain_later}
 use Rattle.sg_eval.proofs.Later.{are_known_later, vars_later}
@@ -13,7 +14,7 @@ pub invariant_of-self : goal.invariant_of-self
 invariant_of-self c =
     let kept = c.combine.ensures.keeps in
     let m = c.args.self.now in
-    record { known = (are_known_later m.store c.combine.new.store m.variables.items kept m.known.0, are_known_later m.store c.combine.new.store m.parameters.items kept m.known.1) }
+    record { known = (known_in_later m.store c.combine.new.store m.variables.entries kept m.known.0, are_known_later m.store c.combine.new.store m.parameters.items kept m.known.1) }
 
 pub returns : goal.returns
 returns c =
@@ -24,7 +25,7 @@ returns c =
     let x = c.args.a.now in
     let y = c.args.b.now in
     let op = c.args.op in
-    evaluates_reply c.combine.result (state_of m) (record { names = b; variables = vars_of b m.variables.items; parameters = vars_of b m.parameters.items }) (operation op (plain (slice_get a) x) (plain (slice_get a) y)) (λ names. combines op (plain names x) (plain names y))
-    kept (vars_later a b m.variables.items kept m.known.0) (vars_later a b m.parameters.items kept m.known.1)
+    evaluates_reply c.combine.result (state_of m) (record { names = b; variables = values_of b m.variables.entries; parameters = vars_of b m.parameters.items }) (operation op (plain (slice_get a) x) (plain (slice_get a) y)) (λ names. combines op (plain names x) (plain names y))
+    kept (values_later a b m.variables.entries kept m.known.0) (vars_later a b m.parameters.items kept m.known.1)
     (λ final later t h. subst (λ d. IsReply (operation op d (plain (slice_get final) y)) t) (sym (plain_later a final x (keeps_then a b final kept later) c.requires.left))
     (subst (λ d. IsReply (operation op (plain (slice_get a) x) d) t) (sym (plain_later a final y (keeps_then a b final kept later) c.requires.right)) h)) c.combine.ensures.reply

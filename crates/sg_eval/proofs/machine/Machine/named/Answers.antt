@@ -1,24 +1,23 @@
-use Rattle.std.proofs.Common.{◌≡◌, Some, None, slice_get, sym, subst}
+use Rattle.std.proofs.Common.{Err, Ok, refl}
 use Rattle.std.specs.Map.{lookup}
 use Rattle.std.specs.Str.{bytes_eq}
-use Rattle.sg_value.specs.Plain.{plain}
+use Rattle.sg_eval.specs.Expressions.{named}
 use Rattle.sg_eval.specs.Machine.{state_of}
-use Rattle.sg_eval.specs.State.{vars_of, AreKnown}
-use Rattle.sg_eval.proofs.Later.{parameter_found, variable_found}
+use Rattle.sg_eval.proofs.Borrowed.{found_over, copied, copied_exit}
 use Rattle.sg_eval.proofs.machine.Machine.named.Goals as goal
 
-pub returns-in-Some : goal.returns-in-Some
-returns-in-Some c =
+pub returns-in_err-value : goal.returns-in_err-value
+returns-in_err-value c =
     let m = c.args.self.now in
-    let name = c.args.name.now in
-    let found = subst (λ vs. lookup (bytes_eq name) (vars_of m.store vs) ≡ Some (plain (slice_get m.store) c.in-Some.value.now)) c.deref.ensures.value (c.in-Some.ensures.found m.store) in
-    parameter_found (state_of m) name c.in-Some.value.now c.in_ok-try_clone.field-0 found (c.in-Some.ensures.known m.store (subst (AreKnown m.store) (sym c.deref.ensures.value) m.known.1)) c.in_ok-try_clone.ensures
+    let s = state_of m in
+    let x = c.args.name.now in
+    copied_exit c.from_residual.result _ s (λ names. named (lookup (bytes_eq x) s.parameters) x) c.from_residual.ensures.1
+    (found_over (Err c.in_err-value.field-0.0) s x m.parameters.items c.deref.result.now m.variables.entries c.in_err-value.ensures c.deref.ensures.value refl refl m.known.1 m.known.0)
 
-pub returns-in_ok-try_clone-in-Some-find : goal.returns-in_ok-try_clone-in-Some-find
-returns-in_ok-try_clone-in-Some-find c =
+pub returns : goal.returns
+returns c =
     let m = c.args.self.now in
-    let name = c.args.name.now in
-    let absent = subst (λ vs. lookup (bytes_eq name) (vars_of m.store vs) ≡ None) c.deref.ensures.value (c.in_default.ensures.found m.store) in
-    let found = subst (λ vs. lookup (bytes_eq name) (vars_of m.store vs) ≡ Some (plain (slice_get m.store) c.in-Some-find.value.now)) c.deref-2.ensures.value (c.in-Some-find.ensures.found m.store) in
-    variable_found (state_of m) name c.in-Some-find.value.now c.in_ok-try_clone-in-Some-find.field-0 absent found
-    (c.in-Some-find.ensures.known m.store (subst (AreKnown m.store) (sym c.deref-2.ensures.value) m.known.0)) c.in_ok-try_clone-in-Some-find.ensures
+    let s = state_of m in
+    let x = c.args.name.now in
+    copied c.in_ok-value.value c.in_ok-try_clone.field-0 s (λ names. named (lookup (bytes_eq x) s.parameters) x) c.in_ok-try_clone.ensures
+    (found_over (Ok c.in_ok-value.value) s x m.parameters.items c.deref.result.now m.variables.entries c.in_ok-value.ensures c.deref.ensures.value refl refl m.known.1 m.known.0)

@@ -1,0 +1,3 @@
+pub mod SymmetryDecisions
+pub mod DecompositionExists
+pub mod SaturationExists

@@ -1,0 +1,139 @@
+-- Values where they stand, found by their names.
+use Rattle.std.proofs.Common.{◌≡◌, ℕ, List, [], Option, Some, None, Result, Ok, Err, Bor, slice_get, IsErrAnd, refl, ap, sym, ◌∙◌, subst}
+use Rattle.std.specs.Map.{lookup}
+use Rattle.std.specs.Str.{bytes_eq}
+use Rattle.sg_value.specs.Plain.{Named, AllKnown, plain, contents}
+use Rattle.sg_value.specs.declared.value.Value.{Value}
+use Rattle.sg_rows.specs.Order.{Plain}
+use Rattle.sg_rows.specs.declared.fault.CallFault.{CallFault}
+use Rattle.sg_rows.specs.declared.fault.CallFault.TheVariants.{Script, Memory}
+use Rattle.sg_rows.specs.declared.fault.Fault.{Fault}
+use Rattle.sg_rows.specs.declared.fault.Fault.TheVariants.{UnknownName}
+use Rattle.std.proofs.lemmas.Result.{err_from_is_err_and}
+use Rattle.std.proofs.Math.Path.{fun_ext}
+use Rattle.sg_store.specs.Interned.{Keeps}
+use Rattle.sg_tree.specs.Tree.{Tree, Trees, tree}
+use Rattle.sg_eval.specs.Expressions.{named, known, eval, eval_places, ask}
+use Rattle.sg_eval.specs.Given.{plain_if}
+use Rattle.sg_eval.specs.Linked.{placed, start_of, items_from, next_from}
+use Rattle.sg_eval.specs.Queries.{indexes}
+use Rattle.sg_eval.proofs.Deciding.{assoc}
+use Rattle.sg_eval.specs.Outcomes.{Gives, Evaluates, Finds, plain_of, known_of}
+use Rattle.sg_eval.specs.Process.{Process, gives, ◌>>=◌, Runs}
+use Rattle.sg_eval.specs.State.{State, vars_of, values_of, AreKnown, AreKnownIn}
+use Rattle.sg_eval.specs.Vars.{Vars, value_at}
+use Rattle.sg_eval.specs.declared.variable.Variable.{Variable}
+use Rattle.sg_eval.proofs.Evaluating.{keeps_all, keeps_then, evaluates_then, evaluates_exit, evaluates_as, evaluates_gives}
+use Rattle.sg_eval.proofs.Steps.{right_unit}
+use Rattle.sg_eval.proofs.Later.{parameter_found, variable_found, copy_known, copy_plain}
+use Rattle.sg_eval.proofs.Named.{Entries}
+
+-- the same, of a value and of where it stands
+seen_at : (v : Bor Value) (s : State) (p : Named → Process Plain) → Evaluates plain AllKnown (Ok v.now) s s p → Evaluates plain_of known_of (Ok v) s s p
+seen_at v s p h = record { keeps = h.keeps; variables = h.variables; parameters = h.parameters; is_known = h.is_known; gives = h.gives }
+
+pub value_at_place : (v : Bor Value) (s : State) (p : Named → Process Plain) → Evaluates plain_of known_of (Ok v) s s p → Evaluates plain AllKnown (Ok v.now) s s p
+value_at_place v s p h = record { keeps = h.keeps; variables = h.variables; parameters = h.parameters; is_known = h.is_known; gives = h.gives }
+
+pub parameter_there : (s : State) (x : List ℕ) (ps : List Variable) (v : Bor Value) → s.parameters ≡ vars_of s.names ps → lookup (bytes_eq x) (vars_of s.names ps) ≡ Some (plain (slice_get s.names) v.now)
+    → AllKnown (slice_get s.names) v.now → Evaluates plain_of known_of (Ok v) s s (λ names. named (lookup (bytes_eq x) s.parameters) x)
+parameter_there s x ps v params found is_known =
+    seen_at v s (λ names. named (lookup (bytes_eq x) s.parameters) x) (parameter_found s x v.now v.now (ap (lookup (bytes_eq x)) params ∙ found) is_known refl)
+
+pub variable_there : (s : State) (x : List ℕ) (ps : List Variable) (es : Entries) (v : Bor Value) → s.parameters ≡ vars_of s.names ps → s.variables ≡ values_of s.names es → lookup (bytes_eq x) (vars_of s.names ps) ≡ None
+    → lookup (bytes_eq x) (values_of s.names es) ≡ Some (plain (slice_get s.names) v.now) → AllKnown (slice_get s.names) v.now → Evaluates plain_of known_of (Ok v) s s (λ names. named (lookup (bytes_eq x) s.parameters) x)
+variable_there s x ps es v params vars absent found is_known =
+    seen_at v s (λ names. named (lookup (bytes_eq x) s.parameters) x) (variable_found s x v.now v.now (ap (lookup (bytes_eq x)) params ∙ absent) (ap (lookup (bytes_eq x)) vars ∙ found) is_known refl)
+
+pub name_unknown : (s : State) (x : List ℕ) (ps : List Variable) (es : Entries) → s.parameters ≡ vars_of s.names ps → s.variables ≡ values_of s.names es → lookup (bytes_eq x) (vars_of s.names ps) ≡ None
+    → lookup (bytes_eq x) (values_of s.names es) ≡ None → Evaluates plain_of known_of (Err (Script UnknownName)) s s (λ names. named (lookup (bytes_eq x) s.parameters) x)
+name_unknown s x ps es params vars absent missing =
+    subst (λ o. Evaluates plain_of known_of (Err (Script UnknownName)) s s (λ names. named o x)) (sym (ap (lookup (bytes_eq x)) params ∙ absent))
+    (record {
+      keeps = keeps_all s.names;
+      variables = refl;
+      parameters = tt;
+      is_known = tt;
+      gives = λ final later. subst (λ o. Runs (known o) s.variables (Err UnknownName) s.variables []) (sym (ap (lookup (bytes_eq x)) vars ∙ missing)) (refl, refl, refl);
+    })
+
+-- a name whose value is known by now has no other
+named_only : {B : Type 0} (o : Option Plain) (x : List ℕ) (d : Plain) (g : Plain → Process B) (vars : Vars) (end : Result B Fault) (vars' : Vars) (bs : List ℕ)
+    → Runs (named o x) vars (Ok d) vars [] → Runs (named o x >>= g) vars end vars' bs → Runs (g d) vars end vars' bs
+named_only (Some e) x d g vars end vars' bs h k = let same : e ≡ d = cc in subst (λ y. Runs (g y) vars end vars' bs) same k
+named_only None x d g vars end vars' bs h k = by_value (value_at vars x) h k
+  where
+    by_value : (o : Option Plain) → Runs (known o) vars (Ok d) vars [] → Runs (known o >>= g) vars end vars' bs → Runs (g d) vars end vars' bs
+    by_value (Some e) h k = let same : e ≡ d = cc in subst (λ y. Runs (g y) vars end vars' bs) same k
+    by_value None h k = absurd (cc)
+
+-- a fault while a value is looked for
+pub look_exit : {Y B : Type 0} (view : Named → Y → B) (known : Named → Y → Type 0) (r : Result Y CallFault) (e : CallFault) (s : State) (p : Named → Process Plain) (f : Named → Plain → Process B) → IsErrAnd r (λ y. y ≡ e)
+    → Evaluates plain_of known_of (Err e) s s p → Evaluates view known r s s (λ names. p names >>= f names)
+look_exit view known r e s p f failed h = evaluates_exit plain_of known_of view known r e s s p f failed h
+
+pub finds_exit : (r : Result (Unit {0}) CallFault) (e : CallFault) (s : State) (p : Named → Process Plain) → IsErrAnd r (λ y. y ≡ e) → Evaluates plain_of known_of (Err e) s s p → Finds r s p
+finds_exit r e s p failed h =
+    let q = err_from_is_err_and r failed in
+    subst (λ t. Finds t s p) (sym (q.1 ∙ ap Err q.2)) (exit e h)
+  where
+    exit : (e : CallFault) → Evaluates plain_of known_of (Err e) s s p → Evaluates plain AllKnown (Err e) s s p
+    exit (Script d) h = record { keeps = h.keeps; variables = h.variables; parameters = tt; is_known = tt; gives = h.gives }
+    exit (Memory m) h = record { keeps = h.keeps; variables = h.variables; parameters = tt; is_known = tt; gives = λ final later. tt }
+
+pub copied_exit : (r : Result Value CallFault) (e : CallFault) (s : State) (p : Named → Process Plain) → IsErrAnd r (λ y. y ≡ e) → Evaluates plain_of known_of (Err e) s s p → Evaluates plain AllKnown r s s p
+copied_exit r e s p failed h =
+    evaluates_as plain AllKnown r s s (λ names. p names >>= (λ d. gives d)) p (λ names. right_unit (p names)) (evaluates_exit plain_of known_of plain AllKnown r e s s p (λ names d. gives d) failed h)
+
+pub copied : (v : Bor Value) (w : Value) (s : State) (p : Named → Process Plain) → contents w ≡ contents v.now → Evaluates plain_of known_of (Ok v) s s p → Evaluates plain AllKnown (Ok w) s s p
+copied v w s p copy h =
+    evaluates_as plain AllKnown (Ok w) s s (λ names. p names >>= (λ d. gives d)) p (λ names. right_unit (p names))
+    (evaluates_then plain_of known_of plain AllKnown v (Ok w) s s s p (λ names d. gives d) h
+    (evaluates_gives plain AllKnown w s (λ names. plain names v.now) (copy_known (slice_get s.names) v.now w copy h.is_known) (λ final later. copy_plain (slice_get final) v.now w copy)))
+
+-- what is found over a machine
+pub found_over : (r : Result (Bor Value) CallFault) (s : State) (x : List ℕ) (ps qs : List Variable) (es : Entries)
+    → ((s : State) → s.parameters ≡ vars_of s.names qs → s.variables ≡ values_of s.names es → AreKnown s.names qs → AreKnownIn s.names es → Evaluates plain_of known_of r s s (λ names. named (lookup (bytes_eq x) s.parameters) x))
+    → qs ≡ ps → s.parameters ≡ vars_of s.names ps → s.variables ≡ values_of s.names es → AreKnown s.names ps → AreKnownIn s.names es → Evaluates plain_of known_of r s s (λ names. named (lookup (bytes_eq x) s.parameters) x)
+found_over r s x ps qs es h same params vars known_ps known_es = h s (subst (λ ws. s.parameters ≡ vars_of s.names ws) (sym same) params) vars (subst (AreKnown s.names) (sym same) known_ps) known_es
+
+gives_only : {Y B : Type 0} (view : Y → B) (r : Result Y CallFault) (o : Option Plain) (x : List ℕ) (d : Plain) (g : Plain → Process B) (vars : Vars) → Runs (named o x) vars (Ok d) vars [] → Gives view r (named o x >>= g) vars → Gives view r (g d) vars
+gives_only view (Ok y) o x d g vars h k = named_only o x d g vars (Ok (view y)) vars [] h k
+gives_only view (Err (Script e)) o x d g vars h k = named_only o x d g vars (Err e) vars [] h k
+gives_only view (Err (Memory m)) o x d g vars h k = tt
+
+-- what comes of a name comes of its value, which was found before
+pub entry_only : (s s1 : State) (x : List ℕ) (v : Value) (r : Result Value CallFault) → s1.parameters ≡ s.parameters → s1.variables ≡ s.variables → Keeps s.names s1.names → (g : Named → Plain → Process Plain)
+    → Evaluates plain AllKnown (Ok v) s s (λ names. named (lookup (bytes_eq x) s.parameters) x) → Evaluates plain AllKnown r s1 s1 (λ names. named (lookup (bytes_eq x) s1.parameters) x >>= g names)
+    → Evaluates plain AllKnown r s1 s1 (λ names. g names (plain names v))
+entry_only s s1 x v r params vars kept g h k = record {
+  keeps = k.keeps;
+  variables = k.variables;
+  parameters = k.parameters;
+  is_known = k.is_known;
+  gives = λ final later.
+      let found = subst (λ vs. Runs (named (lookup (bytes_eq x) s.parameters) x) vs (Ok (plain (slice_get final) v)) vs []) (sym vars) (h.gives final (keeps_then s.names s1.names final kept later)) in
+      gives_only (plain (slice_get final)) r (lookup (bytes_eq x) s1.parameters) x (plain (slice_get final) v) (g (slice_get final)) s1.variables
+      (subst (λ ps. Runs (named (lookup (bytes_eq x) ps) x) s1.variables (Ok (plain (slice_get final) v)) s1.variables []) (sym params) found) (k.gives final later);
+}
+
+from_step : (ps : Vars) (x : List ℕ) (o : Option Plain) (t : Tree) (ts : Trees) → next_from ps x o t >>= (λ e. eval_places ps e ts) ≡ items_from ps x o (tree t ts)
+from_step ps x o t ts =
+    assoc (start_of ps x o) (λ d. placed ps d t) (λ e. eval_places ps e ts)
+    ∙ ap (λ k. start_of ps x o >>= k) (fun_ext (λ d. assoc (eval ps t) (λ i. ask (indexes d i)) (λ e. eval_places ps e ts)))
+
+-- one place more
+module _ (ps : Vars) (s s1 : State) (x : List ℕ) (t : Tree) (ts : Trees) (o : Option Value) (same : s.parameters ≡ ps) where
+  pub from_then : (w : Value) (r : Result Value CallFault) (s2 : State) → Evaluates plain AllKnown (Ok w) s s1 (λ names. next_from s.parameters x (plain_if names o) t)
+      → Evaluates plain AllKnown r s1 s2 (λ names. items_from ps x (plain_if names (Some w)) ts) → Evaluates plain AllKnown r s s2 (λ names. items_from ps x (plain_if names o) (tree t ts))
+  from_then w r s2 h g =
+      evaluates_as plain AllKnown r s s2 (λ names. next_from ps x (plain_if names o) t >>= (λ e. eval_places ps e ts)) (λ names. items_from ps x (plain_if names o) (tree t ts)) (λ names. from_step ps x (plain_if names o) t ts)
+      (evaluates_then plain AllKnown plain AllKnown w r s s1 s2 (λ names. next_from ps x (plain_if names o) t) (λ names e. eval_places ps e ts)
+      (subst (λ qs. Evaluates plain AllKnown (Ok w) s s1 (λ names. next_from qs x (plain_if names o) t)) same h) g)
+
+  pub from_exit : (r : Result Value CallFault) (e : CallFault) → IsErrAnd r (λ y. y ≡ e) → Evaluates plain AllKnown (Err e) s s1 (λ names. next_from s.parameters x (plain_if names o) t)
+      → Evaluates plain AllKnown r s s1 (λ names. items_from ps x (plain_if names o) (tree t ts))
+  from_exit r e failed h =
+      evaluates_as plain AllKnown r s s1 (λ names. next_from ps x (plain_if names o) t >>= (λ d. eval_places ps d ts)) (λ names. items_from ps x (plain_if names o) (tree t ts)) (λ names. from_step ps x (plain_if names o) t ts)
+      (evaluates_exit plain AllKnown plain AllKnown r e s s1 (λ names. next_from ps x (plain_if names o) t) (λ names d. eval_places ps d ts) failed
+      (subst (λ qs. Evaluates plain AllKnown (Err e) s s1 (λ names. next_from qs x (plain_if names o) t)) same h))

@@ -1,0 +1,140 @@
+-- Pieces of a statement, one after the other.
+use Rattle.std.proofs.Common.{◌≡◌, ℕ, List, [], ◌++◌, Option, Some, None, Result, Ok, Err, OnOk, IfErr, IsErrAnd, slice_get, inl, inr, refl, ap, sym, ◌∙◌, subst, append_assoc, append-nil}
+use Rattle.std.proofs.lemmas.Result.{err_from_is_err_and}
+use Rattle.std.specs.Io.KnownBytes.{append_known}
+use Rattle.sg_io.specs.Faults.{AppendsFront}
+use Rattle.sg_value.specs.Plain.{Named}
+use Rattle.sg_store.specs.Interned.{Keeps}
+use Rattle.sg_rows.specs.declared.fault.Fault.{Fault}
+use Rattle.sg_rows.specs.declared.fault.CallFault.{CallFault}
+use Rattle.sg_rows.specs.declared.fault.CallFault.TheVariants as call_fault
+use Rattle.sg_eval.specs.declared.step_fault.StepFault.{StepFault}
+use Rattle.sg_eval.specs.declared.step_fault.StepFault.TheVariants.{Script, Write, Memory}
+use Rattle.sg_eval.specs.Outcomes.{Gives, Evaluates}
+use Rattle.sg_eval.specs.Process.{Process, gives, refuses, sets, writes, ◌>>=◌, Runs, Breaks}
+use Rattle.sg_eval.specs.State.{State}
+use Rattle.sg_eval.specs.Steps.{Does, Executed, step_fault, IsOutside}
+use Rattle.sg_eval.specs.Vars.{Vars, with_value}
+use Rattle.sg_rows.specs.Order.{Plain}
+use Rattle.sg_eval.proofs.Evaluating.{keeps_then, keeps_all}
+use Rattle.sg_eval.proofs.Runs.{runs_then, runs_refused, breaks_first, breaks_then, breaks_in}
+
+pub append_known-nil : (o : Option (List ℕ)) → o ≡ append_known o []
+append_known-nil None = refl
+append_known-nil (Some xs) = ap Some (sym (append-nil xs))
+
+twice : (o : Option (List ℕ)) (a b : List ℕ) → append_known (append_known o a) b ≡ append_known o (a ++ b)
+twice None a b = refl
+twice (Some xs) a b = ap Some (append_assoc xs a b)
+
+pub joined : (o o1 o2 : Option (List ℕ)) (a b : List ℕ) → o1 ≡ append_known o a → o2 ≡ append_known o1 b → o2 ≡ append_known o (a ++ b)
+joined o o1 o2 a b e f = f ∙ (ap (λ k. append_known k b) e ∙ twice o a b)
+
+-- a piece that ended well, and what comes after it
+does_then : {A B : Type 0} (p : Process A) (f : A → Process B) (vars vars1 vars2 : Vars) (a : A) (t u : List ℕ) → Runs p vars (Ok a) vars1 t
+    → (r : Result B StepFault) → Does r (f a) vars1 vars2 u → Does r (p >>= f) vars vars2 (t ++ u)
+does_then p f vars vars1 vars2 a t u h (Ok b) g = runs_then p f vars vars1 vars2 a (Ok b) t u h g
+does_then p f vars vars1 vars2 a t u h (Err (Script e)) g = runs_then p f vars vars1 vars2 a (Err e) t u h g
+does_then p f vars vars1 vars2 a t u h (Err Write) g = breaks_then p f vars vars1 vars2 a t u h g
+does_then p f vars vars1 vars2 a t u h (Err Memory) g = breaks_then p f vars vars1 vars2 a t u h g
+
+does_in : {A B : Type 0} (p : Process A) (f : A → Process B) (vars vars' : Vars) (t : List ℕ) (e : StepFault) → Does {A = A} (Err e) p vars vars' t → Does {A = B} (Err e) (p >>= f) vars vars' t
+does_in p f vars vars' t (Script e) g = runs_refused p f vars vars' e t g
+does_in p f vars vars' t Write g = breaks_in p f vars vars' t g
+does_in p f vars vars' t Memory g = breaks_in p f vars vars' t g
+
+pub executed_then : {A B : Type 0} (p : Process A) (f : A → Process B) (a : A) (r : Result B StepFault) (s s1 s2 : State) (o o1 o2 : Option (List ℕ))
+    → Executed (Ok a) s s1 o o1 p → Executed r s1 s2 o1 o2 (f a) → Executed r s s2 o o2 (p >>= f)
+executed_then p f a r s s1 s2 o o1 o2 h g = record {
+  keeps = keeps_then s.names s1.names s2.names h.keeps g.keeps;
+  parameters = g.parameters;
+  gained = h.gained ++ g.gained;
+  appended = joined o o1 o2 h.gained g.gained h.appended g.appended;
+  does = does_then p f s.variables s1.variables s2.variables a h.gained g.gained h.does r g.does;
+}
+
+-- a piece that did not end well, and nothing after it
+pub executed_in : {A B : Type 0} (p : Process A) (f : A → Process B) (r : Result B StepFault) (e : StepFault) (s s1 : State) (o o1 : Option (List ℕ)) → IsErrAnd r (λ y. y ≡ e)
+    → Executed {A = A} (Err e) s s1 o o1 p → Executed r s s1 o o1 (p >>= f)
+executed_in {A} {B} p f r e s s1 o o1 failed h =
+    let q = err_from_is_err_and r failed in
+    subst (λ t. Executed t s s1 o o1 (p >>= f)) (sym (q.1 ∙ ap Err q.2))
+    (record { keeps = h.keeps; parameters = tt; gained = h.gained; appended = h.appended; does = does_in p f s.variables s1.variables h.gained e h.does })
+
+-- an expression gave a value, and what comes of it
+pub executed_value : {X A B : Type 0} (view : Named → X → A) (known : Named → X → Type 0) (p : Process A) (f : A → Process B) (x : X) (r : Result B StepFault) (s s1 s2 : State) (o o2 : Option (List ℕ))
+    → Evaluates view known (Ok x) s s1 (λ names. p) → Executed r s1 s2 o o2 (f (view (slice_get s1.names) x)) → Executed r s s2 o o2 (p >>= f)
+executed_value view known p f x r s s1 s2 o o2 h g = record {
+  keeps = keeps_then s.names s1.names s2.names h.keeps g.keeps;
+  parameters = g.parameters;
+  gained = g.gained;
+  appended = g.appended;
+  does = does_then p f s.variables s.variables s2.variables (view (slice_get s1.names) x) [] g.gained (h.gives s1.names (keeps_all s1.names)) r
+      (subst (λ vs. Does r (f (view (slice_get s1.names) x)) vs s2.variables g.gained) h.variables g.does);
+}
+
+-- an expression was refused
+gives_fault : {X A B : Type 0} (view : X → A) (p : Process A) (f : A → Process B) (vars : Vars) (e : CallFault) → Gives view (Err e) p vars → Does {A = B} (Err (step_fault e)) (p >>= f) vars vars []
+gives_fault view p f vars (call_fault.Script d) g = runs_refused p f vars vars d [] g
+gives_fault view p f vars (call_fault.Memory m) g = breaks_first (p >>= f) vars
+
+pub executed_exit : {X A B : Type 0} (view : Named → X → A) (known : Named → X → Type 0) (p : Process A) (f : A → Process B) (r : Result B StepFault) (e : CallFault) (s s1 : State) (o : Option (List ℕ))
+    → IsErrAnd r (λ y. y ≡ step_fault e) → Evaluates view known (Err e) s s1 (λ names. p) → Executed r s s1 o o (p >>= f)
+executed_exit {X} {A} {B} view known p f r e s s1 o failed h =
+    let q = err_from_is_err_and r failed in
+    subst (λ t. Executed t s s1 o o (p >>= f)) (sym (q.1 ∙ ap Err q.2))
+    (record {
+      keeps = h.keeps;
+      parameters = tt;
+      gained = [];
+      appended = append_known-nil o;
+      does = subst (λ vs. Does {A = B} (Err (step_fault e)) (p >>= f) s.variables vs []) (sym h.variables) (gives_fault (view (slice_get s1.names)) p f s.variables e (h.gives s1.names (keeps_all s1.names)));
+    })
+
+-- memory ran out before anything was done
+pub executed_memory : {B : Type 0} (p : Process B) (r : Result B StepFault) (s s1 : State) (o : Option (List ℕ)) → IsErrAnd r (λ y. y ≡ Memory) → Keeps s.names s1.names → s1.variables ≡ s.variables → Executed r s s1 o o p
+executed_memory {B} p r s s1 o failed keeps same =
+    let q = err_from_is_err_and r failed in
+    subst (λ t. Executed t s s1 o o p) (sym (q.1 ∙ ap Err q.2))
+    (record { keeps = keeps; parameters = tt; gained = []; appended = append_known-nil o; does = subst (λ vs. Breaks p s.variables vs []) (sym same) (breaks_first p s.variables) })
+
+-- it is there at once
+pub executed_gives : {B : Type 0} (b : B) (s : State) (o : Option (List ℕ)) → s.parameters ≡ [] → Executed (Ok b) s s o o (gives b)
+executed_gives b s o none = record { keeps = keeps_all s.names; parameters = none; gained = []; appended = append_known-nil o; does = (refl, refl, refl) }
+
+pub executed_refuses : {B : Type 0} (e : Fault) (s : State) (o : Option (List ℕ)) → Executed {A = B} (Err (Script e)) s s o o (refuses e)
+executed_refuses e s o = record { keeps = keeps_all s.names; parameters = tt; gained = []; appended = append_known-nil o; does = (refl, refl, refl) }
+
+-- a variable got a value, and what comes after it
+does_sets : {B : Type 0} (x : List ℕ) (d : Plain) (p : Process B) (vars vars' : Vars) (t : List ℕ) (r : Result B StepFault) → Does r p (with_value x d vars) vars' t → Does r (sets x d p) vars vars' t
+does_sets x d p vars vars' t (Ok b) g = g
+does_sets x d p vars vars' t (Err (Script e)) g = g
+does_sets x d p vars vars' t (Err Write) g = inr g
+does_sets x d p vars vars' t (Err Memory) g = inr g
+
+pub executed_sets : {B : Type 0} (x : List ℕ) (d : Plain) (p : Process B) (r : Result B StepFault) (s s1 s2 : State) (o o2 : Option (List ℕ)) → s1.names ≡ s.names → s1.variables ≡ with_value x d s.variables
+    → Executed r s1 s2 o o2 p → Executed r s s2 o o2 (sets x d p)
+executed_sets x d p r s s1 s2 o o2 names vars g = record {
+  keeps = subst (λ a. Keeps a s2.names) names g.keeps;
+  parameters = g.parameters;
+  gained = g.gained;
+  appended = g.appended;
+  does = does_sets x d p s.variables s2.variables g.gained r (subst (λ vs. Does r p vs s2.variables g.gained) vars g.does);
+}
+
+-- a text was written, or a front of it
+pub executed_writes : (text : List ℕ) (r : Result (Unit {0}) StepFault) (s : State) (o o' : Option (List ℕ)) → s.parameters ≡ [] → OnOk r (o' ≡ append_known o text) → AppendsFront o o' text → IfErr r IsOutside
+    → Executed r s s o o' (writes text (gives tt))
+executed_writes text (Ok u) s o o' none all front outside = record { keeps = keeps_all s.names; parameters = none; gained = text; appended = all; does = ([], sym (append-nil text), (refl, refl, refl)) }
+executed_writes text (Err (Script e)) s o o' none all front outside = absurd outside
+executed_writes text (Err Write) s o o' none all front outside = record { keeps = keeps_all s.names; parameters = tt; gained = front.1.0; appended = front.1.2; does = inl (refl, front.0, front.1.1) }
+executed_writes text (Err Memory) s o o' none all front outside = record { keeps = keeps_all s.names; parameters = tt; gained = front.1.0; appended = front.1.2; does = inl (refl, front.0, front.1.1) }
+
+-- of two processes that are the same
+pub executed_as : {B : Type 0} (p q : Process B) (r : Result B StepFault) (s s1 : State) (o o1 : Option (List ℕ)) → p ≡ q → Executed r s s1 o o1 p → Executed r s s1 o o1 q
+executed_as p q r s s1 o o1 same h = subst (λ k. Executed r s s1 o o1 k) same h
+
+-- outside of all arrows
+pub at_top : {X A : Type 0} (view : Named → X → A) (known : Named → X → Type 0) (r : Result X CallFault) (s s1 : State) (p : Vars → Process A) → s.parameters ≡ [] → Evaluates view known r s s1 (λ names. p s.parameters)
+    → Evaluates view known r s s1 (λ names. p [])
+at_top view known r s s1 p none h = subst (λ qs. Evaluates view known r s s1 (λ names. p qs)) none h

@@ -1,0 +1,25 @@
+use Rattle.std.proofs.Common.{slice_get, ap, sym, ◌∙◌, subst}
+use Rattle.sg_eval.specs.State.{values_of, AreKnownIn}
+use Rattle.sg_eval.specs.Vars.{with_value}
+use Rattle.sg_value.specs.Plain.{plain}
+use Rattle.sg_eval.proofs.Named.{values-set, values-insert, known-set, known-insert}
+use Rattle.sg_eval.proofs.variables.set.Goals as goal
+
+pub returns-in-Some-clause-ok : goal.returns-in-Some-clause-ok
+returns-in-Some-clause-ok c = λ names.
+    ap (values_of names) (c.get_mut.follows.holds c.args.value).0 ∙ values-set names c.args.name.now c.args.variables.now.entries _ c.args.value c.in-Some.ensures.value
+
+pub returns-in-Some-clause-known : goal.returns-in-Some-clause-known
+returns-in-Some-clause-known c = λ names all h.
+    subst (AreKnownIn names) (sym (c.get_mut.follows.holds c.args.value).0) (known-set names c.args.name.now c.args.variables.now.entries c.args.value all h)
+
+pub returns-clause-ok : goal.returns-clause-ok
+returns-clause-ok c = λ names.
+    let vs = c.args.variables.now.entries in
+    let k = c.in_ok-to_vec.field-0 in
+    let v = c.args.value in
+    ap (values_of names) c.in_ok-insert.ensures.entries
+    ∙ (rw c.get_mut.follows.holds-at-none (values-insert names k vs v) ∙ ap (λ x. with_value x (plain (slice_get names) v) (values_of names vs)) (c.in_ok-to_vec.ensures.items_if_clones_equal (λ x y e. e)))
+
+pub returns-clause-known : goal.returns-clause-known
+returns-clause-known c = λ names all h. subst (AreKnownIn names) (sym c.in_ok-insert.ensures.entries) (rw c.get_mut.follows.holds-at-none (known-insert names c.in_ok-to_vec.field-0 c.args.variables.now.entries c.args.value all h))

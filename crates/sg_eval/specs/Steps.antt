@@ -1,0 +1,104 @@
+-- What a step of the machine did.
+use Rattle.std.specs.Prelude.{◌≡◌, ℕ, Bool, true, false, List, [], codes, Option, Some, None, Result, Ok, Err, OnOk, if◌then◌else◌, ⊤}
+use Rattle.std.specs.Io.KnownBytes.{append_known}
+use Rattle.std.specs.Str.{bytes_eq}
+use Rattle.sg_value.specs.Data.{Items}
+use Rattle.sg_rows.specs.Kinds.{as_list}
+use Rattle.sg_tree.specs.Tree.{Tree, number, quoted, truth, failing, variable, call, display, span, minus, negation, chain, compare, item as item_tree, Arguments, Code, nothing, quit, assign, choose, each, perform, Arms, no_arms, arm}
+use Rattle.sg_store.specs.Interned.{Keeps}
+use Rattle.sg_rows.specs.declared.fault.CallFault.{CallFault}
+use Rattle.sg_rows.specs.declared.fault.CallFault.TheVariants as call_fault
+use Rattle.sg_eval.specs.declared.step_fault.Flow.{Flow}
+use Rattle.sg_eval.specs.declared.step_fault.Flow.TheVariants.{On, Quit}
+use Rattle.sg_eval.specs.declared.step_fault.StepFault.{StepFault}
+use Rattle.sg_eval.specs.declared.step_fault.StepFault.TheVariants.{Script, Write, Memory}
+use Rattle.sg_eval.specs.Expressions.{eval, eval_given, decided, listed}
+use Rattle.sg_eval.specs.Process.{Process, gives, ◌>>=◌, Runs, Breaks}
+use Rattle.sg_eval.specs.State.{State}
+use Rattle.sg_eval.specs.Statements.{on, ended, whole, exec_all, printed}
+use Rattle.sg_eval.specs.Vars.{Vars}
+
+-- a step over a statement: it ended, with these variables and this text, or it was left at some point
+abbrev pub Executes : Result Flow StepFault → Code → Vars → Vars → List ℕ → Type 0
+Executes (Ok On) c vars vars' bs = Runs (whole c) vars (Ok on) vars' bs
+Executes (Ok Quit) c vars vars' bs = Runs (whole c) vars (Ok ended) vars' bs
+Executes (Err (Script e)) c vars vars' bs = Runs (whole c) vars (Err e) vars' bs
+Executes (Err Write) c vars vars' bs = Breaks (whole c) vars vars' bs
+Executes (Err Memory) c vars vars' bs = Breaks (whole c) vars vars' bs
+
+-- the same for a piece of a statement
+abbrev pub Does : {A : Type 0} → Result A StepFault → Process A → Vars → Vars → List ℕ → Type 0
+Does (Ok a) p vars vars' bs = Runs p vars (Ok a) vars' bs
+Does (Err (Script e)) p vars vars' bs = Runs p vars (Err e) vars' bs
+Does (Err Write) p vars vars' bs = Breaks p vars vars' bs
+Does (Err Memory) p vars vars' bs = Breaks p vars vars' bs
+
+-- a call over a machine and a sink did what the process does; known semigroups stayed, and no parameter
+pub record Executed {A : Type 0} (r : Result A StepFault) (old new : State) (taken taken' : Option (List ℕ)) (p : Process A) : Type 0 where
+  pub keeps : Keeps old.names new.names
+  pub parameters : OnOk r (new.parameters ≡ [])
+  pub gained : List ℕ
+  pub appended : taken' ≡ append_known taken gained
+  pub does : Does r p old.variables new.variables gained
+
+-- the same fault, of a step
+abbrev pub step_fault : CallFault → StepFault
+step_fault (call_fault.Script e) = Script e
+step_fault (call_fault.Memory m) = Memory
+
+-- the statement that ends a run
+abbrev pub is_quit : Code → Bool
+is_quit quit = true
+is_quit nothing = false
+is_quit (assign x t) = false
+is_quit (choose guarded other) = false
+is_quit (each x t body) = false
+is_quit (perform t) = false
+
+-- the block of the first arm whose condition is true; it says whether there was one
+abbrev pub arm_done : Arms → Process Bool
+arm_done no_arms = gives false
+arm_done (arm t body others) = eval [] t >>= (λ d. decided d (λ b. if b then exec_all body >>= (λ u. gives true) else arm_done others))
+
+-- a call of Print with its arguments, if the expression is one
+abbrev pub printing : Bool → Arguments → Option Arguments
+printing true args = Some args
+printing false args = None
+
+abbrev pub printed_arguments : Tree → Option Arguments
+printed_arguments (call name args) = printing (bytes_eq name (codes "Print")) args
+printed_arguments (number z) = None
+printed_arguments (quoted bs) = None
+printed_arguments (truth b) = None
+printed_arguments failing = None
+printed_arguments (variable x) = None
+printed_arguments (display ts) = None
+printed_arguments (span low high) = None
+printed_arguments (item_tree t places) = None
+printed_arguments (minus n t) = None
+printed_arguments (negation n t) = None
+printed_arguments (chain t ls) = None
+printed_arguments (compare r left right) = None
+
+-- a call of Print
+abbrev pub print_done : Arguments → Process (Unit {0})
+print_done args = eval_given [] args >>= printed
+
+-- the condition of an arm, and the list of a loop
+abbrev pub held : Vars → Tree → Process Bool
+held env t = eval env t >>= (λ d. decided d (λ b. gives b))
+
+abbrev pub listed_of : Vars → Tree → Process (Items (List ℕ))
+listed_of env t = eval env t >>= (λ d. listed (as_list d) (λ ds. gives ds))
+
+-- no fault of the script
+abbrev pub IsOutside : StepFault → Type 0
+IsOutside (Script e) = ⊥
+IsOutside Write = ⊤
+IsOutside Memory = ⊤
+
+-- no fault of the sink
+abbrev pub IsInside : StepFault → Type 0
+IsInside (Script e) = ⊤
+IsInside Write = ⊥
+IsInside Memory = ⊤

@@ -1,0 +1,333 @@
+//! What expressions give.
+
+ghost use Rattle.std.specs.Prelude.{◌≡◌, ◌∷◌, Some, None, MatchOption, IfOk, length, slice_get, ⊤};
+ghost use Rattle.sg_value.specs.Plain.{AllKnown, AllKnownIn, plain, plain_of_all};
+ghost use Rattle.sg_tree.specs.TreeView.{tree_of, trees_of, links_of, argument_of, arguments_of};
+ghost use Rattle.sg_tree.specs.Tree.{display as displayed, call as called};
+ghost use Rattle.sg_eval.specs.Expressions.{eval as meaning, eval_all as meaning_of_all, eval_places, eval_links, eval_given, eval_folding};
+ghost use Rattle.sg_eval.specs.Folded.{fold_on};
+ghost use Rattle.sg_eval.specs.Given.{plain_if, known_if, plain_where, known_where, eval_argument};
+ghost use Rattle.sg_value.specs.Data.{none};
+ghost use Rattle.sg_eval.specs.Linked.{linked as linked_meaning, placed, items_from, next_from, compared_with};
+ghost use Rattle.sg_eval.specs.Outcomes.{Evaluates, plain_in, known_in};
+ghost use Rattle.sg_eval.specs.Machine.{state_of};
+
+use crate::answers::{index, list_of, put, span};
+use crate::folding::{Folding, entries_if, finished, folding_named, gather, goes_on};
+use crate::given::with_one;
+use crate::links::{ends_chain, operator_of, relation_of, truth_itself};
+use crate::machine::Machine;
+use crate::signs::{negated, turned};
+use sg_calls::{CallFault, Fault, Operator, check_call};
+use sg_nat::Bytes;
+use sg_tree::{Arg, Expr, Op};
+use sg_value::{Value, try_clone};
+use std::alloc::Global;
+
+/// The value of an expression.
+#[cycle(eval)]
+pub fn eval(alloc: Global, machine: &mut Machine, e: &Expr) -> Result<Value, CallFault>
+    ensures { Evaluates plain AllKnown result (state_of machine.old) (state_of machine.new) (λ names. meaning (state_of machine.old).parameters (tree_of e.now)) }
+{
+    match e {
+        Expr::Int(z) => Ok(Value::Int(*z)),
+        Expr::Text(text) => Ok(Value::Text(text.try_clone()?)),
+        Expr::Bool(b) => Ok(Value::Bool(*b)),
+        Expr::Fail => Ok(Value::Fail),
+        Expr::Var(name) => machine.named(alloc, name.as_slice()),
+        Expr::Call(name, args) => call(alloc, machine, args, name.as_slice()),
+        Expr::Display(entries) => display(alloc, machine, entries),
+        Expr::Span(low, high) => {
+            let a = eval(alloc, machine, low)?;
+            let b = eval(alloc, machine, high)?;
+            span(alloc, &a, &b)
+        }
+        Expr::Item(list, places) => {
+            if let Expr::Var(name) = &**list {
+                return named_item(alloc, machine, places, name.as_slice());
+            }
+            let value = eval(alloc, machine, list)?;
+            item(alloc, machine, places, value)
+        }
+        Expr::Minus(count, operand) => negated(*count, eval(alloc, machine, operand)?),
+        Expr::Not(count, operand) => turned(*count, &eval(alloc, machine, operand)?),
+        Expr::Chain(first, links) => {
+            let value = eval(alloc, machine, first)?;
+            chain(alloc, machine, links, value)
+        }
+        Expr::Compare(relation, left, right) => {
+            let a = eval(alloc, machine, left)?;
+            compared(alloc, machine, right, relation_of(*relation), a)
+        }
+    }
+}
+
+/// What a call of a command gives.
+#[cycle(eval)]
+fn call(alloc: Global, machine: &mut Machine, args: &[Arg], name: &[u8]) -> Result<Value, CallFault>
+    ensures { Evaluates plain AllKnown result (state_of machine.old) (state_of machine.new) (λ names. meaning (state_of machine.old).parameters (called name.now (arguments_of args.now))) }
+{
+    if let Some(fold) = folding_named(name) {
+        return fold_call(alloc, machine, args, fold);
+    }
+    if let Some(fault) = check_call(name, args.len()) {
+        return Err(CallFault::Script(fault));
+    }
+    match given(alloc, machine, args)? {
+        Some(values) => machine.call(alloc, name, &values),
+        None => Err(CallFault::Script(Fault::WrongType)),
+    }
+}
+
+/// The values of arguments, or none where there is an arrow among them.
+#[cycle(eval)]
+pub fn given(
+    alloc: Global,
+    machine: &mut Machine,
+    args: &[Arg],
+) -> Result<Option<Vec<Value>>, CallFault>
+    ensures value { Evaluates plain_where known_where result (state_of machine.old) (state_of machine.new) (λ names. eval_given (state_of machine.old).parameters (arguments_of args.now)) }
+    ensures count { IfOk result (λ vs. MatchOption vs ⊤ (λ ws. length ws.items ≡ length args.now)) }
+{
+    let mut values = Some(Vec::new(alloc));
+    for arg in args {
+        let found = argument(alloc, machine, arg)?;
+        values = with_one(values, found)?;
+    }
+    Ok(values)
+}
+
+/// The value of an argument, or none where it is an arrow.
+#[cycle(eval)]
+fn argument(alloc: Global, machine: &mut Machine, arg: &Arg) -> Result<Option<Value>, CallFault>
+    ensures { Evaluates plain_if known_if result (state_of machine.old) (state_of machine.new) (λ names. eval_argument (state_of machine.old).parameters (argument_of arg.now)) }
+{
+    match arg {
+        Arg::Plain(e) => Ok(Some(eval(alloc, machine, e)?)),
+        Arg::Arrow(_, _) => Ok(None),
+    }
+}
+
+/// The list of the values of expressions.
+#[cycle(eval)]
+fn display(alloc: Global, machine: &mut Machine, entries: &[Expr]) -> Result<Value, CallFault>
+    ensures { Evaluates plain AllKnown result (state_of machine.old) (state_of machine.new) (λ names. meaning (state_of machine.old).parameters (displayed (trees_of entries.now))) }
+{
+    list_of(eval_all(alloc, machine, entries)?)
+}
+
+/// The values of expressions, in their order.
+#[cycle(eval)]
+fn eval_all(alloc: Global, machine: &mut Machine, es: &[Expr]) -> Result<Vec<Value>, CallFault>
+    ensures { Evaluates plain_in known_in result (state_of machine.old) (state_of machine.new) (λ names. meaning_of_all (state_of machine.old).parameters (trees_of es.now)) }
+{
+    let mut values = Vec::new(alloc);
+    for e in es {
+        let value = eval(alloc, machine, e)?;
+        put(&mut values, value)?;
+    }
+    Ok(values)
+}
+
+/// The entry by one place after the other.
+#[cycle(eval)]
+fn item(
+    alloc: Global,
+    machine: &mut Machine,
+    places: &[Expr],
+    list: Value,
+) -> Result<Value, CallFault>
+    requires { AllKnown (slice_get (state_of machine.old).names) list }
+    ensures { Evaluates plain AllKnown result (state_of machine.old) (state_of machine.new) (λ names. eval_places (state_of machine.old).parameters (plain names list) (trees_of places.now)) }
+{
+    let mut value = list;
+    for place in places {
+        value = item_at(alloc, machine, place, value)?;
+    }
+    Ok(value)
+}
+
+/// The entry by one place after the other, of the list of a name, which is not copied.
+#[cycle(eval)]
+fn named_item(
+    alloc: Global,
+    machine: &mut Machine,
+    places: &[Expr],
+    name: &[u8],
+) -> Result<Value, CallFault>
+    ensures { Evaluates plain AllKnown result (state_of machine.old) (state_of machine.new) (λ names. items_from (state_of machine.old).parameters name.now (plain_if names None) (trees_of places.now)) }
+{
+    let mut value = None;
+    for place in places {
+        value = Some(next_item(alloc, machine, place, name, value)?);
+    }
+    match value {
+        Some(found) => Ok(found),
+        None => machine.named(alloc, name),
+    }
+}
+
+/// The entry at the place that an expression gives, of a list, or at first of that of a name.
+#[cycle(eval)]
+fn next_item(
+    alloc: Global,
+    machine: &mut Machine,
+    place: &Expr,
+    name: &[u8],
+    list: Option<Value>,
+) -> Result<Value, CallFault>
+    requires { known_if (slice_get (state_of machine.old).names) list }
+    ensures { Evaluates plain AllKnown result (state_of machine.old) (state_of machine.new) (λ names. next_from (state_of machine.old).parameters name.now (plain_if names list) (tree_of place.now)) }
+{
+    match list {
+        Some(value) => item_at(alloc, machine, place, value),
+        None => {
+            machine.check_named(name)?;
+            let at = eval(alloc, machine, place)?;
+            machine.entry(alloc, name, &at)
+        }
+    }
+}
+
+/// What an operator gives of a value and that of an expression. The value of a name is not copied.
+#[cycle(eval)]
+fn compared(
+    alloc: Global,
+    machine: &mut Machine,
+    right: &Expr,
+    op: Operator,
+    left: Value,
+) -> Result<Value, CallFault>
+    requires { AllKnown (slice_get (state_of machine.old).names) left }
+    ensures { Evaluates plain AllKnown result (state_of machine.old) (state_of machine.new) (λ names. compared_with (state_of machine.old).parameters op (plain names left) (tree_of right.now)) }
+{
+    if let Expr::Var(name) = right {
+        return machine.combine_named(alloc, op, &left, name.as_slice());
+    }
+    let b = eval(alloc, machine, right)?;
+    machine.combine(alloc, op, &left, &b)
+}
+
+/// The entry at the place that an expression gives.
+#[cycle(eval)]
+fn item_at(
+    alloc: Global,
+    machine: &mut Machine,
+    place: &Expr,
+    list: Value,
+) -> Result<Value, CallFault>
+    requires { AllKnown (slice_get (state_of machine.old).names) list }
+    ensures { Evaluates plain AllKnown result (state_of machine.old) (state_of machine.new) (λ names. placed (state_of machine.old).parameters (plain names list) (tree_of place.now)) }
+{
+    let at = eval(alloc, machine, place)?;
+    index(alloc, &list, &at)
+}
+
+/// The value after the links of a chain.
+#[cycle(eval)]
+fn chain(
+    alloc: Global,
+    machine: &mut Machine,
+    links: &[(Op, Expr)],
+    first: Value,
+) -> Result<Value, CallFault>
+    requires { AllKnown (slice_get (state_of machine.old).names) first }
+    ensures { Evaluates plain AllKnown result (state_of machine.old) (state_of machine.new) (λ names. eval_links (state_of machine.old).parameters (plain names first) (links_of links.now)) }
+{
+    let mut value = first;
+    for (op, operand) in links {
+        if ends_chain(*op, &value)? {
+            return Ok(value);
+        }
+        value = linked(alloc, machine, operand, *op, value)?;
+    }
+    Ok(value)
+}
+
+/// The value after one link.
+#[cycle(eval)]
+fn linked(
+    alloc: Global,
+    machine: &mut Machine,
+    operand: &Expr,
+    op: Op,
+    left: Value,
+) -> Result<Value, CallFault>
+    requires { AllKnown (slice_get (state_of machine.old).names) left }
+    ensures { Evaluates plain AllKnown result (state_of machine.old) (state_of machine.new) (λ names. linked_meaning (state_of machine.old).parameters op (tree_of operand.now) (plain names left)) }
+{
+    let right = eval(alloc, machine, operand)?;
+    match operator_of(op) {
+        Some(operator) => machine.combine(alloc, operator, &left, &right),
+        None => truth_itself(right),
+    }
+}
+
+/// What a command with an arrow gives of its arguments.
+#[cycle(eval)]
+fn fold_call(
+    alloc: Global,
+    machine: &mut Machine,
+    args: &[Arg],
+    fold: Folding,
+) -> Result<Value, CallFault>
+    ensures { Evaluates plain AllKnown result (state_of machine.old) (state_of machine.new) (λ names. eval_folding (state_of machine.old).parameters (arguments_of args.now) fold) }
+{
+    if args.len() != 2 {
+        return Err(CallFault::Script(Fault::WrongCount));
+    }
+    let first = argument(alloc, machine, &args[0])?;
+    match &args[1] {
+        Arg::Plain(e) => {
+            eval(alloc, machine, e)?;
+            Err(CallFault::Script(Fault::WrongType))
+        }
+        Arg::Arrow(parameter, body) => {
+            let entries = entries_if(first)?;
+            folded(alloc, machine, body, parameter, fold, &entries)
+        }
+    }
+}
+
+/// What such a command gives of the entries of a list.
+#[cycle(eval)]
+fn folded(
+    alloc: Global,
+    machine: &mut Machine,
+    body: &Expr,
+    parameter: &Bytes,
+    fold: Folding,
+    entries: &[Value],
+) -> Result<Value, CallFault>
+    requires { AllKnownIn (slice_get (state_of machine.old).names) entries.now }
+    ensures { Evaluates plain AllKnown result (state_of machine.old) (state_of machine.new) (λ names. fold_on fold (λ e. meaning ((parameter.now, e) ∷ (state_of machine.old).parameters) (tree_of body.now)) none (plain_of_all names entries.now)) }
+{
+    let mut gathered = Vec::new(alloc);
+    for entry in entries {
+        let value = apply(alloc, machine, body, parameter, entry)?;
+        if !goes_on(fold, &value)? {
+            return finished(fold, false, gathered);
+        }
+        gather(alloc, fold, entry, value, &mut gathered)?;
+    }
+    finished(fold, true, gathered)
+}
+
+/// The value of an arrow's body at an entry.
+#[cycle(eval)]
+fn apply(
+    alloc: Global,
+    machine: &mut Machine,
+    body: &Expr,
+    parameter: &Bytes,
+    entry: &Value,
+) -> Result<Value, CallFault>
+    requires { AllKnown (slice_get (state_of machine.old).names) entry.now }
+    ensures { Evaluates plain AllKnown result (state_of machine.old) (state_of machine.new) (λ names. meaning ((parameter.now, plain names entry.now) ∷ (state_of machine.old).parameters) (tree_of body.now)) }
+{
+    let copy = try_clone(entry, alloc)?;
+    machine.bind(parameter, copy)?;
+    let value = eval(alloc, machine, body)?;
+    machine.unbind();
+    Ok(value)
+}

@@ -1,0 +1,63 @@
+//! The variables, each name with its value.
+
+ghost use Rattle.std.specs.Prelude.{◌≡◌, ℕ, List, Some, None, MatchOption, OnOk, OnErr, slice_get, ⊤};
+ghost use Rattle.std.specs.Map.{lookup};
+ghost use Rattle.std.specs.Str.{bytes_eq};
+ghost use Rattle.sg_value.specs.Plain.{AllKnown, plain};
+ghost use Rattle.sg_eval.specs.State.{State, vars_of, values_of, AreKnown, AreKnownIn};
+ghost use Rattle.sg_eval.specs.Expressions.{named};
+ghost use Rattle.sg_eval.specs.Outcomes.{Evaluates, plain_of, known_of};
+ghost use Rattle.sg_eval.specs.Vars.{with_value};
+
+use crate::variable::{Variable, find};
+use indexmap::IndexMap;
+use sg_calls::{CallFault, Fault};
+use sg_value::Value;
+use std::alloc::{AllocError, Global};
+
+/// Each name with its value, in the order in which the names first got one.
+pub type Variables = IndexMap<Vec<u8>, Value>;
+
+/// The value of a variable.
+pub fn value_of<'a>(variables: &'a Variables, name: &[u8]) -> Option<&'a Value>
+    ensures found { (names : List (List ℕ)) → MatchOption result (lookup (bytes_eq name.now) (values_of names variables.now.entries) ≡ None) (λ v. lookup (bytes_eq name.now) (values_of names variables.now.entries) ≡ Some (plain (slice_get names) v.now)) }
+    ensures known { (names : List (List ℕ)) → AreKnownIn names variables.now.entries → MatchOption result ⊤ (λ v. AllKnown (slice_get names) v.now) }
+{
+    variables.get(name)
+}
+
+/// Gives a variable its value.
+pub fn set(
+    alloc: Global,
+    variables: &mut Variables,
+    name: &[u8],
+    value: Value,
+) -> Result<(), AllocError>
+    ensures ok { OnOk result ((names : List (List ℕ)) → values_of names variables.new.entries ≡ with_value name.now (plain (slice_get names) value) (values_of names variables.old.entries)) }
+    ensures known { OnOk result ((names : List (List ℕ)) → AreKnownIn names variables.old.entries → AllKnown (slice_get names) value → AreKnownIn names variables.new.entries) }
+    ensures err { OnErr result (variables.new.entries ≡ variables.old.entries) }
+{
+    if let Some(place) = variables.get_mut(name) {
+        *place = value;
+        return Ok(());
+    }
+    variables.insert(name.to_vec(alloc)?, value)?;
+    Ok(())
+}
+
+/// The value of a parameter, or else of a variable.
+pub fn find_in<'a>(
+    parameters: &'a [Variable],
+    variables: &'a Variables,
+    name: &[u8],
+) -> Result<&'a Value, CallFault>
+    ensures { (s : State) → s.parameters ≡ vars_of s.names parameters.now → s.variables ≡ values_of s.names variables.now.entries → AreKnown s.names parameters.now → AreKnownIn s.names variables.now.entries → Evaluates plain_of known_of result s s (λ names. named (lookup (bytes_eq name.now) s.parameters) name.now) }
+{
+    if let Some(value) = find(parameters, name) {
+        return Ok(value);
+    }
+    match value_of(variables, name) {
+        Some(value) => Ok(value),
+        None => Err(CallFault::Script(Fault::UnknownName)),
+    }
+}

@@ -1,0 +1,10 @@
+pub mod Decisions
+pub mod MemberDecisions
+pub mod BoundLemmas
+pub mod SemigroupDecisions
+pub mod ListsExist
+pub mod InvariantsExist
+pub mod SetsExist
+pub mod LeastExists
+pub mod ClosuresExist
+pub mod SpansExist

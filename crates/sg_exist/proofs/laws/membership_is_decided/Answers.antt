@@ -1,0 +1,5 @@
+use Rattle.sg_exist.proofs.MemberDecisions.{member-decided}
+use Rattle.sg_exist.proofs.laws.membership_is_decided.Goals as goal
+
+pub returns : goal.returns
+returns c = member-decided

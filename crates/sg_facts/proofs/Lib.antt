@@ -1,0 +1,10 @@
+pub mod FirstGenerators
+pub mod Counting
+pub mod AperyModulo
+pub mod OneNumber
+pub mod SomeNumber
+pub mod OneList
+pub mod SomeList
+pub mod OneGapList
+pub mod SomeGapList
+pub mod SomeModulo

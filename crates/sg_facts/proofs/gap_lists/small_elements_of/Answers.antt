@@ -1,0 +1,15 @@
+use Rattle.std.proofs.Common.{sym, subst}
+use Rattle.sg_defs.specs.Invariants.{AreSmallElements}
+use Rattle.sg_rows.specs.Order.{fits}
+use Rattle.sg_rows.specs.Limits.{spanned}
+use Rattle.sg_rows.specs.Listed.{naturals_with}
+use Rattle.sg_rows.specs.Replies.{Replies}
+use Rattle.sg_rows.proofs.Semigroups.{of_semigroup}
+use Rattle.sg_facts.proofs.gap_lists.small_elements_of.Goals as goal
+
+pub returns-clause-reply : goal.returns-clause-reply
+returns-clause-reply c =
+    let new = c.table.new.self in
+    of_semigroup c.args.store.now new c.args.s.now (λ G. fits (spanned G (naturals_with (AreSmallElements G))))
+    c.small_elements_within.result c.in-Some.id c.in_ok-table.table.value (sym c.in-Some.ensures) c.in_ok-table.ensures.table
+    (subst (λ G. Replies c.small_elements_within.result new (fits (spanned G (naturals_with (AreSmallElements G))))) c.deref.ensures (c.small_elements_within.ensures new))

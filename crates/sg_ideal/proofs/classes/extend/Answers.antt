@@ -1,0 +1,13 @@
+use Rattle.std.proofs.Common.{arith}
+use Rattle.sg_ideal.proofs.ExtendLemmas.{extended-classes, extended-same}
+use Rattle.sg_ideal.proofs.classes.extend.Goals as goal
+
+pub returns-clause-classes : goal.returns-clause-classes
+returns-clause-classes c =
+    extended-classes c.args.entries.now c.args.other.now c.loop-class.entries c.args.by c.requires.entries c.requires.other c.requires.long c.loop-class.auto.entries
+    (λ k l. c.loop-class.invariant.done k (omega arith))
+
+pub returns-clause-same : goal.returns-clause-same
+returns-clause-same c =
+    extended-same c.args.entries.now c.args.other.now c.loop-class.entries c.args.by c.requires.entries c.requires.other c.requires.long c.loop-class.auto.entries
+    (λ k l. c.loop-class.invariant.done k (omega arith))

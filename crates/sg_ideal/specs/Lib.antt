@@ -1,0 +1,4 @@
+pub mod Value
+pub mod Classes
+pub mod Heads
+pub mod Faults

@@ -1,0 +1,68 @@
+-- Concatenations as replies.
+use Rattle.std.proofs.Common.{◌≡◌, ◌<◌, ◌≤◌, ◌-◌, ℕ, List, Option, Some, None, IsSome, Ok, Err, Vec, slice_get, refl, ap, sym, ◌∙◌, subst, arith}
+use Rattle.std.specs.Global.{Global}
+use Rattle.std.specs.Option.{option_map}
+use Rattle.sg_value.specs.Data.{list, Items, items_map, weight_of_all, depth_of_all, EachSemigroupOfAll}
+use Rattle.sg_value.specs.Plain.{AllKnownIn, IsKnown, contents_of_all, plain_of_all, generators_at}
+use Rattle.sg_value.specs.declared.value.Value.{Value}
+use Rattle.sg_value.specs.declared.value.Value.TheVariants as value
+use Rattle.sg_rows.specs.Order.{fits, IsReply}
+use Rattle.sg_rows.specs.Kinds.{given, answers}
+use Rattle.sg_rows.specs.Replies.{Replies}
+use Rattle.sg_rows.specs.declared.fault.Fault.TheVariants.{WrongType, Depth, TooLarge}
+use Rattle.sg_rows.specs.declared.fault.CallFault.TheVariants.{Script}
+use Rattle.sg_rows.proofs.Replying.{answers_pass}
+use Rattle.sg_rows.proofs.Measures.{depth_of_all-map, weight_of_all-map, replies_list, replies_deep, replies_heavy}
+use Rattle.sg_lists.specs.Words.{joined}
+use Rattle.sg_lists.specs.Lists.{concatenation_of}
+use Rattle.sg_lists.proofs.Joining.{joined-plain, depth-joined, known-joined}
+
+pub some_of : {A : Type 0} (o : Option A) → IsSome o → (a : A) × (o ≡ Some a)
+some_of None h = absurd (cc)
+some_of (Some a) h = (a, refl)
+
+none_of : {A : Type 0} (o : Option A) → (IsSome o → ⊥) → o ≡ None
+none_of None h = refl
+none_of (Some a) h = absurd (h refl)
+
+-- some argument is no list
+pub not_lists : (store : List (List ℕ)) (vs : List Value) → (IsSome (joined (contents_of_all vs)) → ⊥) → Replies (Err (Script WrongType)) store (concatenation_of (plain_of_all (slice_get store) vs))
+not_lists store vs without =
+    let f = generators_at (slice_get store) in
+    subst (λ o. IsReply (given o (λ ds. fits (answers (λ d. d ≡ list ds)))) (Err WrongType)) (sym (joined-plain f (contents_of_all vs) ∙ ap (option_map (items_map f)) (none_of (joined (contents_of_all vs)) without))) refl
+
+-- the arguments are lists, whose entries are ds
+module _ (store : List (List ℕ)) (vs : List Value) (ds : Items ℕ) (is : joined (contents_of_all vs) ≡ Some ds) where
+  seen : joined (plain_of_all (slice_get store) vs) ≡ Some (items_map (generators_at (slice_get store)) ds)
+  seen = joined-plain (generators_at (slice_get store)) (contents_of_all vs) ∙ ap (option_map (items_map (generators_at (slice_get store)))) is
+
+  deep : depth_of_all (items_map (generators_at (slice_get store)) ds) ≡ depth_of_all (contents_of_all vs) - 1
+  deep = depth_of_all-map (generators_at (slice_get store)) ds ∙ depth-joined (contents_of_all vs) ds is
+
+  heavy : weight_of_all (items_map (generators_at (slice_get store)) ds) ≡ weight_of_all ds
+  heavy = weight_of_all-map (generators_at (slice_get store)) ds
+
+  pub too_deep : 64 < depth_of_all (contents_of_all vs) → Replies (Err (Script Depth)) store (concatenation_of (plain_of_all (slice_get store) vs))
+  too_deep past =
+      let all = items_map (generators_at (slice_get store)) ds in
+      let e = deep in
+      subst (λ o. Replies (Err (Script Depth)) store (given o (λ es. fits (answers (λ d. d ≡ list es))))) (sym seen)
+      (replies_deep store (answers (λ d. d ≡ list all)) all (answers_pass (λ d. d ≡ list all)) refl (omega (arith, e, past)))
+
+  pub too_heavy : (64 < depth_of_all (contents_of_all vs) → ⊥) → 4194304 ≤ weight_of_all ds → Replies (Err (Script TooLarge)) store (concatenation_of (plain_of_all (slice_get store) vs))
+  too_heavy shallow past =
+      let all = items_map (generators_at (slice_get store)) ds in
+      let e = deep in
+      let w = heavy in
+      subst (λ o. Replies (Err (Script TooLarge)) store (given o (λ es. fits (answers (λ d. d ≡ list es))))) (sym seen)
+      (replies_heavy store (answers (λ d. d ≡ list all)) all (answers_pass (λ d. d ≡ list all)) refl (omega (arith, e, shallow)) (omega (arith, w, past)))
+
+  pub within : (64 < depth_of_all (contents_of_all vs) → ⊥) → (4194304 ≤ weight_of_all ds → ⊥) → AllKnownIn (slice_get store) vs → (copies : Vec Value Global) → contents_of_all copies.items ≡ ds
+      → Replies (Ok (value.List copies)) store (concatenation_of (plain_of_all (slice_get store) vs))
+  within shallow light known copies same =
+      let all = items_map (generators_at (slice_get store)) ds in
+      let e = deep in
+      let w = heavy in
+      subst (λ o. Replies (Ok (value.List copies)) store (given o (λ es. fits (answers (λ d. d ≡ list es))))) (sym seen)
+      (replies_list store (answers (λ d. d ≡ list all)) all copies (answers_pass (λ d. d ≡ list all)) refl (ap (items_map (generators_at (slice_get store))) same) (omega (arith, e, shallow)) (omega (arith, w, light))
+      (subst (EachSemigroupOfAll (IsKnown (slice_get store))) (sym same) (known-joined (IsKnown (slice_get store)) (contents_of_all vs) ds is known)))

@@ -1,0 +1,13 @@
+use Rattle.std.proofs.Common.{subst}
+use Rattle.sg_rows.specs.Replies.{Replies}
+use Rattle.sg_rows.proofs.Spreading.{not_spread, of_spread}
+use Rattle.sg_lists.specs.Lists.{gcd_of}
+use Rattle.sg_lists.proofs.divisors.gcd_of.Goals as goal
+
+pub returns-in_err-zs : goal.returns-in_err-zs
+returns-in_err-zs c = λ store. not_spread store c.args.args.now gcd_of c.from_residual.result c.in_err-zs.field-0.0 c.from_residual.ensures.1 c.in_err-zs.ensures.err
+
+pub returns : goal.returns
+returns c = λ store.
+    of_spread store c.args.args.now gcd_of c.gcd_of_integers.result c.in_ok-zs.zs c.in_ok-zs.ensures.ok
+    (subst (λ zs. Replies c.gcd_of_integers.result store (gcd_of zs)) c.as_slice.ensures (c.gcd_of_integers.ensures store))

@@ -1,0 +1,13 @@
+use Rattle.std.proofs.Common.{◌≡◌, ℕ, pos, [], rules}
+use Rattle.sg_lists.specs.Words.{IsLcmOfAll}
+use Rattle.sg_lists.proofs.Dividing.{lcm_exists}
+use Rattle.sg_lists.proofs.NumberReplies.{number_replied}
+use Rattle.sg_lists.proofs.divisors.lcm_of_integers.Goals as goal
+
+pub returns : goal.returns
+returns c = λ store.
+    let zs = c.args.zs.now in
+    let found : (m : ℕ) × IsLcmOfAll zs m = lcm_exists zs in
+    let m = found.0 in
+    let some : zs ≡ [] → ⊥ = λ e. search rules in
+    number_replied store (IsLcmOfAll zs) zs m c.integer.result some found.1 (c.integer.ensures store (pos m) (c.signed.ensures m (c.common_multiple.ensures m found.1)))

@@ -1,0 +1,106 @@
+//! Lists one after the other.
+
+ghost use Rattle.std.specs.Prelude.{◌≡◌, ◌<◌, ◌≤◌, ◌-◌, ◌^◌, ◌↔◌, ℕ, List, Some, IsSome, IsTrue, IfOk, OnOk, min, slice_get};
+ghost use Rattle.sg_value.specs.Data.{Items, weight_of_all, depth_of_all};
+ghost use Rattle.sg_value.specs.Plain.{AllKnownIn, contents, contents_of_all, plain_of_all};
+ghost use Rattle.sg_rows.specs.Kinds.{as_list};
+ghost use Rattle.sg_rows.specs.Words.{join};
+ghost use Rattle.sg_lists.specs.Words.{joined};
+ghost use Rattle.sg_lists.specs.Lists.{concatenation_of};
+ghost use Rattle.sg_rows.specs.Replies.{Replies};
+
+use sg_rows::{CallFault, Fault, entries_of, is_heavy};
+use sg_value::{Value, depth, try_clone, weight};
+use std::alloc::{AllocError, Global};
+
+/// How deep lists may nest.
+const DEPTH_LIMIT: u64 = 64;
+
+/// Whether all are lists.
+fn are_lists(values: &[Value]) -> bool
+    ensures { IsTrue result ↔ IsSome (joined (contents_of_all values.now)) }
+{
+    for value in values {
+        if entries_of(value).is_none() {
+            return false;
+        }
+    }
+    true
+}
+
+/// Whether some value nests too deep.
+fn are_deep(values: &[Value]) -> bool
+    ensures { IsTrue result ↔ (64 < depth_of_all (contents_of_all values.now)) }
+{
+    for value in values {
+        if depth(value) > DEPTH_LIMIT {
+            return true;
+        }
+    }
+    false
+}
+
+/// The weight of all values, or 2^64 - 1 where it is more.
+fn total_weight(values: &[Value]) -> u64
+    ensures { result ≡ min (weight_of_all (contents_of_all values.now)) (2 ^ 64 - 1) }
+{
+    let mut total = 0u64;
+    for value in values {
+        total = total.saturating_add(weight(value));
+    }
+    total
+}
+
+/// Whether the entries of the lists are too heavy for one list. Each list weighs 1 more than its entries.
+fn are_heavy(lists: &[Value]) -> bool
+    ensures { (ds : Items ℕ) → joined (contents_of_all lists.now) ≡ Some ds → IsTrue result ↔ (4194304 ≤ weight_of_all ds) }
+{
+    is_heavy(total_weight(lists).saturating_sub(lists.len() as u64))
+}
+
+/// Puts copies of the entries last.
+fn add_copies(alloc: Global, copies: &mut Vec<Value>, entries: &[Value]) -> Result<(), AllocError>
+    ensures { OnOk result (contents_of_all copies.new.items ≡ join (contents_of_all copies.old.items) (contents_of_all entries.now)) }
+{
+    for entry in entries {
+        copies.push(try_clone(entry, alloc)?)?;
+    }
+    Ok(())
+}
+
+/// Puts copies of the entries of a list last.
+fn add_entries(alloc: Global, copies: &mut Vec<Value>, list: &Value) -> Result<(), AllocError>
+    ensures { OnOk result ((xs : Items ℕ) → as_list (contents list.now) ≡ Some xs → contents_of_all copies.new.items ≡ join (contents_of_all copies.old.items) xs) }
+{
+    match entries_of(list) {
+        Some(entries) => add_copies(alloc, copies, entries),
+        None => Ok(()),
+    }
+}
+
+/// Copies of the entries of all lists.
+fn copies_of_all(alloc: Global, lists: &[Value]) -> Result<Vec<Value>, AllocError>
+    ensures { IfOk result (λ vs. (ds : Items ℕ) → joined (contents_of_all lists.now) ≡ Some ds → contents_of_all vs.items ≡ ds) }
+{
+    let mut copies = Vec::new(alloc);
+    for list in lists {
+        add_entries(alloc, &mut copies, list)?;
+    }
+    Ok(copies)
+}
+
+/// The entries of all lists, one list after the other. What is too deep or too heavy is refused before it is built.
+pub fn concatenation_of(alloc: Global, lists: &[Value]) -> Result<Value, CallFault>
+    ensures { (store : List (List ℕ)) → AllKnownIn (slice_get store) lists.now → Replies result store (concatenation_of (plain_of_all (slice_get store) lists.now)) }
+{
+    if !are_lists(lists) {
+        return Err(CallFault::Script(Fault::WrongType));
+    }
+    if are_deep(lists) {
+        return Err(CallFault::Script(Fault::Depth));
+    }
+    if are_heavy(lists) {
+        return Err(CallFault::Script(Fault::TooLarge));
+    }
+    Ok(Value::List(copies_of_all(alloc, lists)?))
+}

@@ -1,0 +1,10 @@
+pub mod Serving
+pub mod Taking
+pub mod Constructing
+pub mod SomeSemigroup
+pub mod Deriving
+pub mod Naturals
+pub mod FromLists
+pub mod Dividing
+pub mod Proportions
+pub mod OneSemigroup

@@ -1,0 +1,66 @@
+-- Constructors as replies of rows.
+use Rattle.std.proofs.Common.{◌↔◌, ℕ, List, Result, Ok, Err, inl, inr, refl, sym, subst, arith}
+use Rattle.std.specs.Prelude.{IfOk, IfErr, OnOk}
+use Rattle.sg_defs.specs.Membership.{Generates}
+use Rattle.sg_apery.specs.Fit.{IsFit, IsPastLimits, IsTooLarge}
+use Rattle.sg_apery.specs.declared.fault.TableFault.{TableFault}
+use Rattle.sg_apery.specs.declared.fault.TableFault.TheVariants as table
+use Rattle.sg_apery.proofs.OneListLemmas.{one-minimal_list}
+use Rattle.sg_apery.proofs.DerivedLemmas.{generates-iff, too_large-iff}
+use Rattle.sg_value.specs.declared.value.Value.{Value}
+use Rattle.sg_rows.specs.Order.{Row, fits}
+use Rattle.sg_rows.specs.Kinds.{generates}
+use Rattle.sg_rows.specs.Replies.{Replies}
+use Rattle.sg_rows.specs.declared.fault.CallFault.{CallFault}
+use Rattle.sg_rows.specs.declared.fault.CallFault.TheVariants.{Script, Memory}
+use Rattle.sg_rows.proofs.Arguments.{replies_semigroup}
+use Rattle.sg_makers.specs.Settled.{IsSettled, IsHeldAs, IsMemory}
+
+past_unfit : (G : List ℕ) → IsFit G → IsPastLimits G → ⊥
+past_unfit G fit (inl past) = omega (arith, fit.multiplicity)
+past_unfit G fit (inr large) = omega (arith, fit.small large.0 large.1, large.2)
+
+-- a semigroup past the limits has no fit list
+pub unfit : (P Q : ℕ → Type 0) → ((n : ℕ) → P n ↔ Q n) → IsTooLarge Q → (G : List ℕ) → Generates P G → IsFit G → ⊥
+unfit P Q same past G generated fit =
+    let large = too_large-iff P Q same past in
+    past_unfit large.0 (subst IsFit (one-minimal_list P G large.0 generated large.1) fit) large.2
+
+-- no condition on arguments
+pub always : {A E : Type 0} (r : Result A E) → OnOk r (Unit {0})
+always (Ok a) = tt
+always (Err e) = tt
+
+-- how a constructor of the naturals with Q serves a row of the naturals with P: R says when it refuses
+pub record Serves (P Q : ℕ → Type 0) (accepted : Type 0) (R : TableFault → Type 0) (size bad : Type 0) : Type 0 where
+  pub small : ¬ size
+  pub same : (n : ℕ) → P n ↔ Q n
+  pub good : (G : List ℕ) → Generates P G → accepted → ¬ bad
+  pub refused : R table.BadArgument → bad
+  pub large : R table.TooLarge → (¬ bad) × ((G : List ℕ) → Generates P G → ¬ IsFit G)
+
+module _ (P Q : ℕ → Type 0) (accepted : Type 0) (R : TableFault → Type 0) (size bad : Type 0) (serves : Serves P Q accepted R size bad) (store : List (List ℕ)) where
+  abbrev row : Row
+  row = record (generates P) { size = size; bad = bad }
+
+  held : (G : List ℕ) (v : Value) → IsHeldAs store G v → Generates Q G → accepted → Replies (Ok v) store (fits row)
+  held G v h generated ok =
+      let g = generates-iff P Q serves.same G generated in
+      subst (λ w. Replies (Ok w) store (fits row)) (sym h.1)
+      (replies_semigroup store row G h.0 (record { size = serves.small; bad = serves.good G g ok; limit = λ l. l G g h.3; many = λ n. n; budget = λ n. n }) (G, refl, g) h.2)
+
+  no_memory : (e : CallFault) → IsMemory e → Replies (Err e) store (fits row)
+  no_memory (Script e) h = absurd h
+  no_memory (Memory e) h = tt
+
+  -- the reply of a row that a constructor serves
+  pub settles : (made : Result (List ℕ) TableFault) (r : Result Value CallFault) → IsSettled made store r → IfOk made (λ G. Generates Q G) → OnOk made accepted → IfErr made R → Replies r store (fits row)
+  settles (Ok G) (Ok v) h generated ok refused = held G v h generated ok
+  settles (Ok G) (Err e) h generated ok refused = no_memory e h
+  settles (Err table.BadArgument) r h generated ok refused =
+      subst (λ s. Replies s store (fits row)) (sym h) (inr (serves.small, inl (serves.refused refused, refl)))
+  settles (Err table.TooLarge) r h generated ok refused =
+      let large = serves.large refused in
+      subst (λ s. Replies s store (fits row)) (sym h)
+      (inr (serves.small, inr (large.0, inl (large.1, refl))))
+  settles (Err (table.Memory e)) r h generated ok refused = subst (λ s. Replies s store (fits row)) (sym h) tt

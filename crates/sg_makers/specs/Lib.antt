@@ -1,0 +1,6 @@
+pub mod Words
+pub mod Makers
+pub mod Settled
+pub mod Derived
+pub mod Listed
+pub mod Modular

@@ -1,0 +1,82 @@
+-- Whether two plain values are the same is decided, and whether one is an entry of a list.
+use Rattle.std.proofs.Common.{◌≡◌, ℕ, Bool, true, false, List, [], ◌∷◌, inl, inr, refl, ap}
+use Rattle.std.specs.Prelude.{◌⊎◌}
+use Rattle.std.proofs.lemmas.Bool.{true≢false, false≢true}
+use Rattle.sg_value.specs.Data.{Data, int, truth, text, list, fail, semigroup, Items, none, item}
+use Rattle.sg_exist.specs.Decided.{Decided}
+use Rattle.sg_exist.proofs.Decisions.{decided-or, decided-same, decided-eq, decided-eq_z}
+use Rattle.sg_rows.specs.Order.{Plain}
+use Rattle.sg_rows.specs.Words.{IsEntry}
+
+pub list-decided : (xs ys : List ℕ) → Decided (xs ≡ ys)
+list-decided [] [] = inl refl
+list-decided [] (y ∷ ys) = inr (λ e. cc)
+list-decided (x ∷ xs) [] = inr (λ e. cc)
+list-decided (x ∷ xs) (y ∷ ys) = elim (decided-eq x y) [
+  | inr other ↦ inr (λ e. other cc)
+  | inl first ↦ elim (list-decided xs ys) [
+    | inr other ↦ inr (λ e. other cc)
+    | inl rest ↦ inl cc
+  ]
+]
+
+truth-decided : (a b : Bool) → Decided (a ≡ b)
+truth-decided true true = inl refl
+truth-decided true false = inr true≢false
+truth-decided false true = inr false≢true
+truth-decided false false = inl refl
+
+mutual
+  pub data-decided : (a b : Plain) → Decided (a ≡ b)
+  data-decided (int x) (int y) = decided-same (x ≡ y) (int x ≡ int y) (λ e. ap int e) (λ e. cc) (decided-eq_z x y)
+  data-decided (int x) (truth b) = inr (λ e. cc)
+  data-decided (int x) (text b) = inr (λ e. cc)
+  data-decided (int x) (list b) = inr (λ e. cc)
+  data-decided (int x) fail = inr (λ e. cc)
+  data-decided (int x) (semigroup b) = inr (λ e. cc)
+  data-decided (truth x) (truth y) = decided-same (x ≡ y) (truth x ≡ truth y) (λ e. ap truth e) (λ e. cc) (truth-decided x y)
+  data-decided (truth x) (int b) = inr (λ e. cc)
+  data-decided (truth x) (text b) = inr (λ e. cc)
+  data-decided (truth x) (list b) = inr (λ e. cc)
+  data-decided (truth x) fail = inr (λ e. cc)
+  data-decided (truth x) (semigroup b) = inr (λ e. cc)
+  data-decided (text x) (text y) = decided-same (x ≡ y) (text x ≡ text y) (λ e. ap text e) (λ e. cc) (list-decided x y)
+  data-decided (text x) (int b) = inr (λ e. cc)
+  data-decided (text x) (truth b) = inr (λ e. cc)
+  data-decided (text x) (list b) = inr (λ e. cc)
+  data-decided (text x) fail = inr (λ e. cc)
+  data-decided (text x) (semigroup b) = inr (λ e. cc)
+  data-decided (list x) (list y) = decided-same (x ≡ y) (list x ≡ list y) (λ e. ap list e) (λ e. cc) (items-decided x y)
+  data-decided (list x) (int b) = inr (λ e. cc)
+  data-decided (list x) (truth b) = inr (λ e. cc)
+  data-decided (list x) (text b) = inr (λ e. cc)
+  data-decided (list x) fail = inr (λ e. cc)
+  data-decided (list x) (semigroup b) = inr (λ e. cc)
+  data-decided fail fail = inl refl
+  data-decided fail (int b) = inr (λ e. cc)
+  data-decided fail (truth b) = inr (λ e. cc)
+  data-decided fail (text b) = inr (λ e. cc)
+  data-decided fail (list b) = inr (λ e. cc)
+  data-decided fail (semigroup b) = inr (λ e. cc)
+  data-decided (semigroup x) (semigroup y) = decided-same (x ≡ y) (semigroup x ≡ semigroup y) (λ e. ap semigroup e) (λ e. cc) (list-decided x y)
+  data-decided (semigroup x) (int b) = inr (λ e. cc)
+  data-decided (semigroup x) (truth b) = inr (λ e. cc)
+  data-decided (semigroup x) (text b) = inr (λ e. cc)
+  data-decided (semigroup x) (list b) = inr (λ e. cc)
+  data-decided (semigroup x) fail = inr (λ e. cc)
+
+  items-decided : (a b : Items (List ℕ)) → Decided (a ≡ b)
+  items-decided none none = inl refl
+  items-decided none (item e es) = inr (λ h. cc)
+  items-decided (item d ds) none = inr (λ h. cc)
+  items-decided (item d ds) (item e es) = elim (data-decided d e) [
+    | inr other ↦ inr (λ h. other cc)
+    | inl first ↦ elim (items-decided ds es) [
+      | inr other ↦ inr (λ h. other cc)
+      | inl rest ↦ inl cc
+    ]
+  ]
+
+pub entry-decided : (d : Plain) (ds : Items (List ℕ)) → Decided (IsEntry d ds)
+entry-decided d none = inr (λ h. h)
+entry-decided d (item e es) = decided-or (d ≡ e) (IsEntry d es) (data-decided d e) (entry-decided d es)

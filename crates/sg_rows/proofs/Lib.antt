@@ -1,0 +1,17 @@
+pub mod Replying
+pub mod Signed
+pub mod Spans
+pub mod Entries
+pub mod Integers
+pub mod Semigroups
+pub mod Arguments
+pub mod OneValue
+pub mod EqualData
+pub mod SomeValue
+pub mod Spreading
+pub mod Measures
+pub mod OneListed
+pub mod Listing
+pub mod Counted
+pub mod EitherOrder
+pub mod SomeListed

@@ -1,0 +1,11 @@
+pub mod Faults
+pub mod Order
+pub mod Kinds
+pub mod Words
+pub mod Replies
+pub mod Lawful
+pub mod Spread
+pub mod Listed
+pub mod Limits
+pub mod Several
+pub mod Pairs

@@ -1,0 +1,3 @@
+pub mod Symmetry
+pub mod Closures
+pub mod Decompositions
