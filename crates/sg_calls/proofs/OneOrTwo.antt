@@ -1,7 +1,7 @@
 -- Calls with one argument or two.
 use Rattle.std.proofs.Common.{◌≡◌, ℕ, List, [], ◌∷◌, length, get_or, ap, ◌∙◌, arith}
 use Rattle.sg_value.specs.Data.{Items, none, item}
-use Rattle.sg_value.specs.Plain.{Named, plain, plain_of_all}
+use Rattle.sg_value.specs.Plain.{Named, plain, plain_of_all, Things}
 use Rattle.sg_value.specs.declared.value.Value.{Value}
 use Rattle.sg_rows.specs.Order.{Plain, Case}
 use Rattle.sg_rows.proofs.OneValue.{OneValue}
@@ -19,7 +19,7 @@ given_two names (x ∷ []) a b f g count is_a is_b = absurd (omega arith)
 given_two names (x ∷ (y ∷ [])) a b f g count is_a is_b = ap (λ v. g (plain names v) (plain names b)) is_a ∙ ap (λ v. g (plain names x) (plain names v)) is_b
 given_two names (x ∷ (y ∷ (z ∷ zs))) a b f g count is_a is_b = absurd (omega arith)
 
-pub one_or_two_one : (ds : Items (List ℕ)) (f : Plain → Case) (g : Plain → Plain → Case) → ((a : Plain) → OneValue (f a)) → ((a b : Plain) → OneValue (g a b)) → OneValue (one_or_two ds f g)
+pub one_or_two_one : (ds : Items Things) (f : Plain → Case) (g : Plain → Plain → Case) → ((a : Plain) → OneValue (f a)) → ((a b : Plain) → OneValue (g a b)) → OneValue (one_or_two ds f g)
 one_or_two_one none f g h k = tt
 one_or_two_one (item a none) f g h k = h a
 one_or_two_one (item a (item b none)) f g h k = k a b

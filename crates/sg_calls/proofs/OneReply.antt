@@ -1,5 +1,6 @@
 -- Commands and operators have one reply.
 use Rattle.std.proofs.Common.{◌≡◌, ℕ, ℤ, pos, List, Option, Some, None, sym, ◌∙◌}
+use Rattle.sg_value.specs.Plain.{Things}
 use Rattle.std.specs.Prelude.{◌-ℤ◌, ◌<ℤ◌, ◌≤ℤ◌}
 use Rattle.sg_value.specs.Data.{int, Items}
 use Rattle.sg_rows.specs.Order.{Plain, fits, IsReply}
@@ -53,7 +54,7 @@ calculation_one Member x y = tt
 of_integers_one : (op : Operator) (a b : Plain) → OneValue (of_integers op a b)
 of_integers_one op a b = given_one (as_integer a) (λ x. given (as_integer b) (λ y. calculation op x y)) (λ x. given_one (as_integer b) (λ y. calculation op x y) (λ y. calculation_one op x y))
 
-membership_one : (a : Plain) (o : Option (Items (List ℕ))) (s : Option (List ℕ)) → OneValue (membership a o s)
+membership_one : (a : Plain) (o : Option (Items Things)) (s : Option (List ℕ)) → OneValue (membership a o s)
 membership_one a (Some ds) s = whether_one (IsEntry a ds)
 membership_one a None (Some G) = given_one (as_integer a) (λ x. fits (answers (whether (IsIntegerMember G x)))) (λ x. whether_one (IsIntegerMember G x))
 membership_one a None None = tt
@@ -77,7 +78,7 @@ operators_one op a b = reply_one (operation op a b) (operation_one op a b)
 pub sign_one : (a : Plain) → One (IsReply (negation a))
 sign_one a = reply_one (negation a) (given_one (as_integer a) (λ x. fits (answers (λ d. d ≡ int (pos 0 -ℤ x)))) (λ x. is_one _))
 
-row_one : (c : Command) (args : Items (List ℕ)) → OneValue (row c args)
+row_one : (c : Command) (args : Items Things) → OneValue (row c args)
 row_one (FromList m) args = given_one (sole args) (maker.made_by m) (list_maker_one m)
 row_one (OfList f) args = given_one (sole args) (list.fact_of f) (list_fact_one f)
 row_one (OfSemigroup f) args = given_one (sole args) (semigroup.fact_of f) (semigroup_fact_one f)
@@ -92,13 +93,13 @@ row_one NumericalSemigroup args = given_one (spread args) semigroup_of (λ zs. s
 row_one ProportionallyModularNumericalSemigroup args = three_one args proportional_of proportional_one
 row_one QuotientOfNumericalSemigroup args = two_one args quotient_of quotient_one
 
-case_one : (c : Option Command) (args : Items (List ℕ)) → OneValue (case_of c args)
+case_one : (c : Option Command) (args : Items Things) → OneValue (case_of c args)
 case_one None args = tt
 case_one (Some c) args = row_one c args
 
-unless_one : (o : Option Fault) (args : Items (List ℕ)) (c : Option Command) → One (reply_unless o args c)
+unless_one : (o : Option Fault) (args : Items Things) (c : Option Command) → One (reply_unless o args c)
 unless_one (Some e) args c r s p q = p ∙ sym q
 unless_one None args c r s p q = reply_one (case_of c args) (case_one c args) r s p q
 
-pub commands_one : (name : List ℕ) (args : Items (List ℕ)) → One (Answer name args)
+pub commands_one : (name : List ℕ) (args : Items Things) → One (Answer name args)
 commands_one name args = unless_one (checked name (entry_count args)) args (command_named name)

@@ -1,5 +1,6 @@
 -- Commands and operators have a reply over lawful arguments: each condition of a row is decided, and its value exists.
 use Rattle.std.proofs.Common.{◌≡◌, ℕ, ℤ, pos, List, Option, Some, None, Err, refl}
+use Rattle.sg_value.specs.Plain.{Things}
 use Rattle.std.specs.Prelude.{◌+ℤ◌, ◌-ℤ◌, ◌*ℤ◌, ◌<ℤ◌, ◌≤ℤ◌, ⊤}
 use Rattle.std.specs.Int.{int_rem_euclid}
 use Rattle.sg_exist.proofs.Decisions.{decided-not, decided-lt_z, decided-le_z, decided-eq_z}
@@ -60,7 +61,7 @@ of_integers_some : (op : Operator) (a b : Plain) → SomeValue (of_integers op a
 of_integers_some op a b = given_some (λ x. ⊤) (as_integer a) (λ x. given (as_integer b) (λ y. calculation op x y)) (any_some (as_integer a))
     (λ x l. given_some (λ y. ⊤) (as_integer b) (λ y. calculation op x y) (any_some (as_integer b)) (λ y m. calculation_some op x y))
 
-membership_some : (a : Plain) (o : Option (Items (List ℕ))) (s : Option (List ℕ)) → SomeValue (membership a o s)
+membership_some : (a : Plain) (o : Option (Items Things)) (s : Option (List ℕ)) → SomeValue (membership a o s)
 membership_some a (Some ds) s = answers_some _ (whether_some (IsEntry a ds) (entry-decided a ds))
 membership_some a None (Some G) = given_some (λ x. ⊤) (as_integer a) (λ x. fits (answers (whether (IsIntegerMember G x)))) (any_some (as_integer a))
     (λ x l. answers_some _ (whether_some (IsIntegerMember G x) (integer_member-decided G x)))
@@ -88,14 +89,14 @@ sign_some a = reply_some (negation a)
 
 -- ---- the commands
 
-one_or_two_some : (ds : Items (List ℕ)) (f : Plain → Case) (g : Plain → Plain → Case) → AreLawful ds → ((a : Plain) → IsLawful a → SomeValue (f a)) →
+one_or_two_some : (ds : Items Things) (f : Plain → Case) (g : Plain → Plain → Case) → AreLawful ds → ((a : Plain) → IsLawful a → SomeValue (f a)) →
     ((a b : Plain) → IsLawful a → IsLawful b → SomeValue (g a b)) → SomeValue (one_or_two ds f g)
 one_or_two_some none f g l h k = tt
 one_or_two_some (item a none) f g l h k = h a l.0
 one_or_two_some (item a (item b none)) f g l h k = k a b l.0 l.1.0
 one_or_two_some (item a (item b (item c ds))) f g l h k = tt
 
-row_some : (c : Command) (args : Items (List ℕ)) → AreLawful args → SomeValue (row c args)
+row_some : (c : Command) (args : Items Things) → AreLawful args → SomeValue (row c args)
 row_some (OfSemigroup f) args h = given_some IsLawful (sole args) (semigroup.fact_of f) (sole_lawful args h) (semigroup_fact_some f)
 row_some (OfShape f) args h = given_some IsLawful (sole args) (shape.fact_of f) (sole_lawful args h) (shape_fact_some f)
 row_some (OfList f) args h = given_some IsLawful (sole args) (facts.fact_of f) (sole_lawful args h) (λ a l. list_fact_some f a)
@@ -110,13 +111,13 @@ row_some AperyList args h = one_or_two_some args apery_list_of apery_list_modulo
 row_some ModularNumericalSemigroup args h = two_some args modular_of h (λ a b l m. modular_some a b)
 row_some ProportionallyModularNumericalSemigroup args h = three_some args proportional_of h (λ a b c l m n. proportional_some a b c)
 
-case_some : (c : Option Command) (args : Items (List ℕ)) → AreLawful args → SomeValue (case_of c args)
+case_some : (c : Option Command) (args : Items Things) → AreLawful args → SomeValue (case_of c args)
 case_some None args h = tt
 case_some (Some c) args h = row_some c args h
 
-unless_some : (o : Option Fault) (args : Items (List ℕ)) (c : Option Command) → AreLawful args → SomeReply (reply_unless o args c)
+unless_some : (o : Option Fault) (args : Items Things) (c : Option Command) → AreLawful args → SomeReply (reply_unless o args c)
 unless_some (Some e) args c h = (Err e, refl, tt)
 unless_some None args c h = reply_some (case_of c args) (case_some c args h)
 
-pub commands_some : (name : List ℕ) (args : Items (List ℕ)) → AreLawful args → SomeReply (Answer name args)
+pub commands_some : (name : List ℕ) (args : Items Things) → AreLawful args → SomeReply (Answer name args)
 commands_some name args h = unless_some (checked name (entry_count args)) args (command_named name) h

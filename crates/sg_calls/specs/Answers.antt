@@ -1,7 +1,7 @@
 -- What calls answer.
 use Rattle.std.specs.Prelude.{◌≡◌, ℕ, List, Option, Some, None, Result, Ok, Err, slice_get, ⊤}
 use Rattle.sg_value.specs.Data.{Data, Items}
-use Rattle.sg_value.specs.Plain.{plain, AllKnown}
+use Rattle.sg_value.specs.Plain.{plain, AllKnown, Things}
 use Rattle.sg_value.specs.declared.value.Value.{Value}
 use Rattle.sg_rows.specs.Order.{Reply, Case, unfit, IsReply}
 use Rattle.sg_calls.specs.Commands.{checked, command_named}
@@ -15,14 +15,14 @@ use Rattle.sg_rows.specs.declared.fault.CallFault.{CallFault}
 use Rattle.sg_rows.specs.declared.fault.CallFault.TheVariants.{Script, Memory}
 
 -- what a command, if there is one, says of arguments
-abbrev pub case_of : Option Command → Items (List ℕ) → Case
+abbrev pub case_of : Option Command → Items Things → Case
 case_of None args = unfit
 case_of (Some c) args = row c args
 
-abbrev pub reply_unless : Option Fault → Items (List ℕ) → Option Command → Reply → Type 0
+abbrev pub reply_unless : Option Fault → Items Things → Option Command → Reply → Type 0
 reply_unless (Some e) args c r = r ≡ Err e
 reply_unless None args c r = IsReply (case_of c args) r
 
 -- what a command answers: the fault of its name or of the number of its arguments, else the reply of its row
-abbrev pub Answer : List ℕ → Items (List ℕ) → Reply → Type 0
+abbrev pub Answer : List ℕ → Items Things → Reply → Type 0
 Answer name args r = reply_unless (checked name (entry_count args)) args (command_named name) r

@@ -1,5 +1,6 @@
 -- The rows of the operators.
 use Rattle.std.specs.Prelude.{◌≡◌, ℕ, ℤ, pos, ◌+ℤ◌, ◌-ℤ◌, ◌*ℤ◌, ◌≤ℤ◌, ◌<ℤ◌, List, Option, Some, None}
+use Rattle.sg_value.specs.Plain.{Things}
 use Rattle.sg_defs.specs.Membership.{IsIntegerMember}
 use Rattle.sg_value.specs.Data.{int, Items}
 use Rattle.sg_rows.specs.Order.{Plain, Case, unfit, fits}
@@ -31,7 +32,7 @@ abbrev pub membership_of : Plain → List ℕ → Case
 membership_of a G = given (as_integer a) (λ x. fits (answers (whether (IsIntegerMember G x))))
 
 -- whether a list has the value as an entry, or a semigroup the integer as a member
-abbrev pub membership : Plain → Option (Items (List ℕ)) → Option (List ℕ) → Case
+abbrev pub membership : Plain → Option (Items Things) → Option (List ℕ) → Case
 membership a (Some ds) o = fits (answers (whether (IsEntry a ds)))
 membership a None (Some G) = membership_of a G
 membership a None None = unfit

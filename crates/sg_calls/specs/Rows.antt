@@ -1,5 +1,6 @@
 -- Which row answers which command.
 use Rattle.std.specs.Prelude.{ℕ, List}
+use Rattle.sg_value.specs.Plain.{Things}
 use Rattle.sg_value.specs.Data.{Items}
 use Rattle.sg_rows.specs.Order.{Case}
 use Rattle.sg_rows.specs.Kinds.{given, sole, spread}
@@ -19,7 +20,7 @@ use Rattle.sg_calls.specs.declared.command.Command.{Command}
 use Rattle.sg_calls.specs.declared.command.Command.TheVariants.{OfSemigroup, OfList, FromList, Concatenation, Gcd, Intersection, Lcm, NumericalSemigroup, QuotientOfNumericalSemigroup, AperyList, ModularNumericalSemigroup, ProportionallyModularNumericalSemigroup, OfShape}
 
 -- what the row of a command says of arguments
-abbrev pub row : Command → Items (List ℕ) → Case
+abbrev pub row : Command → Items Things → Case
 row (FromList make) args = given (sole args) (maker.made_by make)
 row (OfList fact) args = given (sole args) (list.fact_of fact)
 row (OfSemigroup fact) args = given (sole args) (semigroup.fact_of fact)

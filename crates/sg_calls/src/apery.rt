@@ -1,6 +1,7 @@
 //! Apery lists, modulo the multiplicity or modulo a member.
 
 ghost use Rattle.std.specs.Prelude.{◌≤◌, length, slice_get};
+ghost use Rattle.sg_value.specs.Known.{named};
 ghost use Rattle.sg_value.specs.Plain.{AllKnownIn, plain_of_all};
 ghost use Rattle.sg_store.specs.Interned.{Keeps};
 ghost use Rattle.sg_rows.specs.Replies.{Replies};
@@ -18,8 +19,8 @@ use std::alloc::Global;
 pub fn apery(alloc: Global, store: &mut Store, args: &[Value]) -> Result<Value, CallFault>
     requires some { 1 ≤ length args.now }
     requires few { length args.now ≤ 2 }
-    requires known { AllKnownIn (slice_get store.old) args.now }
-    ensures reply { Replies result store.new (one_or_two (plain_of_all (slice_get store.old) args.now) apery_list_of apery_list_modulo_of) }
+    requires known { AllKnownIn (named store.old) args.now }
+    ensures reply { Replies result store.new (one_or_two (plain_of_all (named store.old) args.now) apery_list_of apery_list_modulo_of) }
     ensures keeps { Keeps store.old store.new }
 {
     if args.len() == 1 {

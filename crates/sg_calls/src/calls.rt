@@ -1,6 +1,7 @@
 //! What commands answer.
 
 ghost use Rattle.std.specs.Prelude.{◌≡◌, true, None, length, slice_get};
+ghost use Rattle.sg_value.specs.Known.{Known, named};
 ghost use Rattle.sg_value.specs.Plain.{AllKnownIn, plain_of_all};
 ghost use Rattle.sg_store.specs.Interned.{Keeps};
 ghost use Rattle.sg_calls.specs.Commands.{checked, command_named, takes};
@@ -28,8 +29,8 @@ fn perform(
     args: &[Value],
 ) -> Result<Value, CallFault>
     requires count { takes command (length args.now) ≡ true }
-    requires known { AllKnownIn (slice_get store.old) args.now }
-    ensures reply { Replies result store.new (row command (plain_of_all (slice_get store.old) args.now)) }
+    requires known { AllKnownIn (named store.old) args.now }
+    ensures reply { Replies result store.new (row command (plain_of_all (named store.old) args.now)) }
     ensures keeps { Keeps store.old store.new }
 {
     match command {
@@ -60,8 +61,8 @@ pub fn answer(
     args: &[Value],
 ) -> Result<Value, CallFault>
     requires checked { checked command.now (length args.now) ≡ None }
-    requires known { AllKnownIn (slice_get store.old) args.now }
-    ensures reply { Replies result store.new (case_of (command_named command.now) (plain_of_all (slice_get store.old) args.now)) }
+    requires known { AllKnownIn (named store.old) args.now }
+    ensures reply { Replies result store.new (case_of (command_named command.now) (plain_of_all (named store.old) args.now)) }
     ensures keeps { Keeps store.old store.new }
 {
     match command_named(command) {

@@ -1,6 +1,7 @@
 //! Facts of one list.
 
 ghost use Rattle.std.specs.Prelude.{ℕ, List, slice_get};
+ghost use Rattle.sg_value.specs.Known.{Known, named};
 ghost use Rattle.sg_value.specs.Plain.{plain};
 ghost use Rattle.sg_rows.specs.Replies.{Replies};
 ghost use Rattle.sg_calls.specs.ListFacts.{fact_of};
@@ -21,7 +22,7 @@ pub enum ListFact {
 
 /// What the row of a fact answers of a value.
 pub fn tell(alloc: Global, fact: ListFact, list: &Value) -> Result<Value, CallFault>
-    ensures { (store : List (List ℕ)) → Replies result store (fact_of fact (plain (slice_get store) list.now)) }
+    ensures { (store : Known) → Replies result store (fact_of fact (plain (named store) list.now)) }
 {
     match fact {
         ListFact::Length => length_of(list),

@@ -1,6 +1,7 @@
 //! Semigroups from one list of integers.
 
 ghost use Rattle.std.specs.Prelude.{slice_get};
+ghost use Rattle.sg_value.specs.Known.{named};
 ghost use Rattle.sg_value.specs.Plain.{plain};
 ghost use Rattle.sg_store.specs.Interned.{Keeps};
 ghost use Rattle.sg_rows.specs.Replies.{Replies};
@@ -28,7 +29,7 @@ pub fn make(
     maker: ListMaker,
     list: &Value,
 ) -> Result<Value, CallFault>
-    ensures reply { Replies result store.new (made_by maker (plain (slice_get store.old) list.now)) }
+    ensures reply { Replies result store.new (made_by maker (plain (named store.old) list.now)) }
     ensures keeps { Keeps store.old store.new }
 {
     match maker {

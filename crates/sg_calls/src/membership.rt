@@ -1,6 +1,7 @@
 //! The operator `in`.
 
 ghost use Rattle.std.specs.Prelude.{◌≡◌, ◌↔◌, ℕ, List, Some, IsSome, IsTrue, slice_get};
+ghost use Rattle.sg_value.specs.Known.{named};
 ghost use Rattle.sg_value.specs.Plain.{AllKnown, AllKnownIn, plain, plain_of_all};
 ghost use Rattle.sg_rows.specs.Replies.{Replies};
 ghost use Rattle.sg_rows.specs.Words.{IsEntry};
@@ -14,9 +15,9 @@ use std::alloc::Global;
 
 /// Whether the value is an entry of the list.
 fn is_among(store: &Store, v: &Value, entries: &[Value]) -> bool
-    requires value { AllKnown (slice_get store.now) v.now }
-    requires entries { AllKnownIn (slice_get store.now) entries.now }
-    ensures { IsTrue result ↔ IsEntry (plain (slice_get store.now) v.now) (plain_of_all (slice_get store.now) entries.now) }
+    requires value { AllKnown (named store.now) v.now }
+    requires entries { AllKnownIn (named store.now) entries.now }
+    ensures { IsTrue result ↔ IsEntry (plain (named store.now) v.now) (plain_of_all (named store.now) entries.now) }
 {
     for entry in entries {
         if store.equal(v, entry) {
@@ -28,8 +29,8 @@ fn is_among(store: &Store, v: &Value, entries: &[Value]) -> bool
 
 /// Whether the value, which has to be an integer, is a member of the semigroup.
 fn is_member(alloc: Global, store: &mut Store, v: &Value, id: SemId) -> Result<Value, CallFault>
-    requires { IsSome (slice_get store.old id) }
-    ensures reply { (gens : List ℕ) → slice_get store.old id ≡ Some gens → Replies result store.new (membership_of (plain (slice_get store.old) v.now) gens) }
+    requires { IsSome (slice_get store.old.semigroups id) }
+    ensures reply { (gens : List ℕ) → slice_get store.old.semigroups id ≡ Some gens → Replies result store.new (membership_of (plain (named store.old) v.now) gens) }
     ensures unchanged { store.new ≡ store.old }
 {
     let Some(x) = integer_of(v) else {
@@ -46,9 +47,9 @@ pub fn member(
     v: &Value,
     whole: &Value,
 ) -> Result<Value, CallFault>
-    requires value { AllKnown (slice_get store.old) v.now }
-    requires whole { AllKnown (slice_get store.old) whole.now }
-    ensures reply { Replies result store.new (operation Operator.Member (plain (slice_get store.old) v.now) (plain (slice_get store.old) whole.now)) }
+    requires value { AllKnown (named store.old) v.now }
+    requires whole { AllKnown (named store.old) whole.now }
+    ensures reply { Replies result store.new (operation Operator.Member (plain (named store.old) v.now) (plain (named store.old) whole.now)) }
     ensures unchanged { store.new ≡ store.old }
 {
     if let Some(entries) = entries_of(whole) {

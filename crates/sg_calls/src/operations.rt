@@ -1,6 +1,7 @@
 //! Operators on their operands.
 
 ghost use Rattle.std.specs.Prelude.{◌≡◌, ◌-ℤ◌, pos, ℕ, ℤ, List, SomeIff, FitsSigned, slice_get};
+ghost use Rattle.sg_value.specs.Known.{Known, named};
 ghost use Rattle.std.specs.Int.{w64};
 ghost use Rattle.sg_value.specs.Data.{int};
 ghost use Rattle.sg_value.specs.Plain.{plain, AllKnown};
@@ -19,7 +20,7 @@ use std::alloc::Global;
 
 /// The remainder that is not negative.
 fn remainder(x: i64, y: i64) -> Result<Value, CallFault>
-    ensures { (store : List (List ℕ)) → Replies result store (calculation Operator.Mod x y) }
+    ensures { (store : Known) → Replies result store (calculation Operator.Mod x y) }
 {
     if y == 0 {
         return Err(CallFault::Script(Fault::BadArgument));
@@ -29,7 +30,7 @@ fn remainder(x: i64, y: i64) -> Result<Value, CallFault>
 
 /// What the operator gives of two integers.
 fn calculate(op: Operator, x: i64, y: i64) -> Result<Value, CallFault>
-    ensures { (store : List (List ℕ)) → Replies result store (calculation op x y) }
+    ensures { (store : Known) → Replies result store (calculation op x y) }
 {
     match op {
         Operator::Plus => integer(x.checked_add(y)),
@@ -48,7 +49,7 @@ fn calculate(op: Operator, x: i64, y: i64) -> Result<Value, CallFault>
 
 /// What the operator gives where both operands are integers.
 fn on_integers(op: Operator, a: &Value, b: &Value) -> Result<Value, CallFault>
-    ensures { (store : List (List ℕ)) → Replies result store (of_integers op (plain (slice_get store) a.now) (plain (slice_get store) b.now)) }
+    ensures { (store : Known) → Replies result store (of_integers op (plain (named store) a.now) (plain (named store) b.now)) }
 {
     let Some(x) = integer_of(a) else {
         return Err(CallFault::Script(Fault::WrongType));
@@ -61,7 +62,7 @@ fn on_integers(op: Operator, a: &Value, b: &Value) -> Result<Value, CallFault>
 
 /// The integer with the other sign.
 pub fn negate(a: &Value) -> Result<Value, CallFault>
-    ensures { (store : List (List ℕ)) → Replies result store (negation (plain (slice_get store) a.now)) }
+    ensures { (store : Known) → Replies result store (negation (plain (named store) a.now)) }
 {
     let Some(x) = integer_of(a) else {
         return Err(CallFault::Script(Fault::WrongType));
@@ -77,9 +78,9 @@ pub fn combine(
     a: &Value,
     b: &Value,
 ) -> Result<Value, CallFault>
-    requires left { AllKnown (slice_get store.old) a.now }
-    requires right { AllKnown (slice_get store.old) b.now }
-    ensures reply { Replies result store.new (operation op (plain (slice_get store.old) a.now) (plain (slice_get store.old) b.now)) }
+    requires left { AllKnown (named store.old) a.now }
+    requires right { AllKnown (named store.old) b.now }
+    ensures reply { Replies result store.new (operation op (plain (named store.old) a.now) (plain (named store.old) b.now)) }
     ensures keeps { Keeps store.old store.new }
 {
     match op {

@@ -1,6 +1,7 @@
 //! Facts of one semigroup.
 
 ghost use Rattle.std.specs.Prelude.{slice_get};
+ghost use Rattle.sg_value.specs.Known.{named};
 ghost use Rattle.sg_value.specs.Plain.{AllKnown, plain};
 ghost use Rattle.sg_store.specs.Interned.{Keeps};
 ghost use Rattle.sg_rows.specs.Replies.{Replies};
@@ -40,8 +41,8 @@ pub fn tell(
     fact: SemigroupFact,
     s: &Value,
 ) -> Result<Value, CallFault>
-    requires { AllKnown (slice_get store.old) s.now }
-    ensures reply { Replies result store.new (fact_of fact (plain (slice_get store.old) s.now)) }
+    requires { AllKnown (named store.old) s.now }
+    ensures reply { Replies result store.new (fact_of fact (plain (named store.old) s.now)) }
     ensures keeps { Keeps store.old store.new }
 {
     match fact {

@@ -1,6 +1,8 @@
 //! Each command and each operator once, with ample memory; the answers are those of the language's description.
 
 ghost use Rattle.std.specs.Prelude.{◌≡◌, slice_get, IfOk};
+ghost use Rattle.sg_value.specs.Data.{semigroups};
+ghost use Rattle.sg_value.specs.Known.{named};
 ghost use Rattle.sg_value.specs.Plain.{AllKnown, AllKnownIn, IsKept};
 ghost use Rattle.sg_store.specs.Interned.{Keeps};
 
@@ -15,7 +17,7 @@ use std::test::Fail;
 
 /// The semigroup that these generate.
 fn generated(alloc: Global, store: &mut Store, entries: &[i64]) -> Result<Value, CallFault>
-    ensures known { IfOk result (λ s. AllKnown (slice_get store.new) s) }
+    ensures known { IfOk result (λ s. AllKnown (named store.new) s) }
     ensures keeps { Keeps store.old store.new }
 {
     numerical_semigroup_of(alloc, store, &[integer_list(alloc, entries)?])
@@ -23,7 +25,7 @@ fn generated(alloc: Global, store: &mut Store, entries: &[i64]) -> Result<Value,
 
 /// The text of a reply, or the name of its fault.
 fn told(alloc: Global, store: &Store, reply: &Result<Value, CallFault>) -> Result<Bytes, CallFault>
-    requires { IfOk reply.now (λ v. AllKnown (slice_get store.now) v) }
+    requires { IfOk reply.now (λ v. AllKnown (named store.now) v) }
 {
     let mut out = Bytes::new(alloc);
     match reply {
@@ -35,7 +37,7 @@ fn told(alloc: Global, store: &Store, reply: &Result<Value, CallFault>) -> Resul
 
 /// The text of what a command answers.
 fn asked(alloc: Global, store: &mut Store, name: &str, args: &[Value]) -> Result<Bytes, CallFault>
-    requires { AllKnownIn (slice_get store.old) args.now }
+    requires { AllKnownIn (named store.old) args.now }
 {
     if check_call(name.as_bytes(), args.len()).is_some() {
         return Ok(Bytes::from_slice(alloc, b"no such call")?);

@@ -1,10 +1,11 @@
 -- Blocks, arms, loops and whole statements, piece by piece.
 use Rattle.std.proofs.Common.{◌≡◌, ◌<◌, ◌+◌, ℕ, List, [], length, get_or, drop, Bool, true, false, Option, Some, None, Vec, Global, refl, ap, sym, ◌∙◌}
+use Rattle.sg_value.specs.Plain.{Things}
 use Rattle.std.specs.Prelude.{if◌then◌else◌, codes}
 use Rattle.std.specs.Str.{bytes_eq}
 use Rattle.std.proofs.Math.Path.{fun_ext}
 use Rattle.std.proofs.lemmas.List.{drop_more}
-use Rattle.sg_value.specs.Data.{Items, truth, int, text, list, fail, semigroup}
+use Rattle.sg_value.specs.Data.{Items, truth, int, text, list, fail, semigroup, ideal}
 use Rattle.sg_rows.specs.Kinds.{as_list}
 use Rattle.sg_rows.specs.Order.{Plain}
 use Rattle.sg_tree.specs.Tree.{Tree, number, quoted, truth as truth_tree, failing, variable, call, display, span, item as item_tree, minus, negation, chain, compare, Arguments, Code, nothing, quit, assign, choose, each, perform, Arms, no_arms, arm, Block, code}
@@ -39,6 +40,7 @@ after_decided (text bs) body others other more = refl
 after_decided (list ds) body others other more = refl
 after_decided fail body others other more = refl
 after_decided (semigroup h) body others other more = refl
+after_decided (ideal h) body others other more = refl
 
 -- a choice: its arms, and what is done where none is taken
 pub choose_step : (guarded : Arms) (other : Process (Unit {0})) → arm_done guarded >>= (λ b. if b then gives tt else other) ≡ exec_arms guarded other
@@ -47,7 +49,7 @@ choose_step (arm t body others) other =
     assoc (eval [] t) (λ d. decided d (λ b. if b then exec_all body >>= (λ u. gives true) else arm_done others)) (λ b. if b then gives tt else other)
     ∙ ap (λ k. eval [] t >>= k) (fun_ext (λ d. after_decided d body others other (choose_step others other)))
 
-listed_next : (o : Option (Items (List ℕ))) (f : Items (List ℕ) → Process (Unit {0})) → listed o (λ ds. gives ds) >>= f ≡ listed o f
+listed_next : (o : Option (Items Things)) (f : Items Things → Process (Unit {0})) → listed o (λ ds. gives ds) >>= f ≡ listed o f
 listed_next None f = refl
 listed_next (Some ds) f = refl
 

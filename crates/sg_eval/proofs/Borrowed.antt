@@ -1,5 +1,6 @@
 -- Values where they stand, found by their names.
 use Rattle.std.proofs.Common.{◌≡◌, ℕ, List, [], Option, Some, None, Result, Ok, Err, Bor, slice_get, IsErrAnd, refl, ap, sym, ◌∙◌, subst}
+use Rattle.sg_value.specs.Known.{named}
 use Rattle.std.specs.Map.{lookup}
 use Rattle.std.specs.Str.{bytes_eq}
 use Rattle.sg_value.specs.Plain.{Named, AllKnown, plain, contents}
@@ -35,13 +36,13 @@ seen_at v s p h = record { keeps = h.keeps; variables = h.variables; parameters 
 pub value_at_place : (v : Bor Value) (s : State) (p : Named → Process Plain) → Evaluates plain_of known_of (Ok v) s s p → Evaluates plain AllKnown (Ok v.now) s s p
 value_at_place v s p h = record { keeps = h.keeps; variables = h.variables; parameters = h.parameters; is_known = h.is_known; gives = h.gives }
 
-pub parameter_there : (s : State) (x : List ℕ) (ps : List Variable) (v : Bor Value) → s.parameters ≡ vars_of s.names ps → lookup (bytes_eq x) (vars_of s.names ps) ≡ Some (plain (slice_get s.names) v.now)
-    → AllKnown (slice_get s.names) v.now → Evaluates plain_of known_of (Ok v) s s (λ names. named (lookup (bytes_eq x) s.parameters) x)
+pub parameter_there : (s : State) (x : List ℕ) (ps : List Variable) (v : Bor Value) → s.parameters ≡ vars_of s.names ps → lookup (bytes_eq x) (vars_of s.names ps) ≡ Some (plain (named s.names) v.now)
+    → AllKnown (named s.names) v.now → Evaluates plain_of known_of (Ok v) s s (λ names. named (lookup (bytes_eq x) s.parameters) x)
 parameter_there s x ps v params found is_known =
     seen_at v s (λ names. named (lookup (bytes_eq x) s.parameters) x) (parameter_found s x v.now v.now (ap (lookup (bytes_eq x)) params ∙ found) is_known refl)
 
 pub variable_there : (s : State) (x : List ℕ) (ps : List Variable) (es : Entries) (v : Bor Value) → s.parameters ≡ vars_of s.names ps → s.variables ≡ values_of s.names es → lookup (bytes_eq x) (vars_of s.names ps) ≡ None
-    → lookup (bytes_eq x) (values_of s.names es) ≡ Some (plain (slice_get s.names) v.now) → AllKnown (slice_get s.names) v.now → Evaluates plain_of known_of (Ok v) s s (λ names. named (lookup (bytes_eq x) s.parameters) x)
+    → lookup (bytes_eq x) (values_of s.names es) ≡ Some (plain (named s.names) v.now) → AllKnown (named s.names) v.now → Evaluates plain_of known_of (Ok v) s s (λ names. named (lookup (bytes_eq x) s.parameters) x)
 variable_there s x ps es v params vars absent found is_known =
     seen_at v s (λ names. named (lookup (bytes_eq x) s.parameters) x) (variable_found s x v.now v.now (ap (lookup (bytes_eq x)) params ∙ absent) (ap (lookup (bytes_eq x)) vars ∙ found) is_known refl)
 
@@ -89,7 +90,7 @@ pub copied : (v : Bor Value) (w : Value) (s : State) (p : Named → Process Plai
 copied v w s p copy h =
     evaluates_as plain AllKnown (Ok w) s s (λ names. p names >>= (λ d. gives d)) p (λ names. right_unit (p names))
     (evaluates_then plain_of known_of plain AllKnown v (Ok w) s s s p (λ names d. gives d) h
-    (evaluates_gives plain AllKnown w s (λ names. plain names v.now) (copy_known (slice_get s.names) v.now w copy h.is_known) (λ final later. copy_plain (slice_get final) v.now w copy)))
+    (evaluates_gives plain AllKnown w s (λ names. plain names v.now) (copy_known (named s.names) v.now w copy h.is_known) (λ final later. copy_plain (named final) v.now w copy)))
 
 -- what is found over a machine
 pub found_over : (r : Result (Bor Value) CallFault) (s : State) (x : List ℕ) (ps qs : List Variable) (es : Entries)
@@ -112,9 +113,9 @@ entry_only s s1 x v r params vars kept g h k = record {
   parameters = k.parameters;
   is_known = k.is_known;
   gives = λ final later.
-      let found = subst (λ vs. Runs (named (lookup (bytes_eq x) s.parameters) x) vs (Ok (plain (slice_get final) v)) vs []) (sym vars) (h.gives final (keeps_then s.names s1.names final kept later)) in
-      gives_only (plain (slice_get final)) r (lookup (bytes_eq x) s1.parameters) x (plain (slice_get final) v) (g (slice_get final)) s1.variables
-      (subst (λ ps. Runs (named (lookup (bytes_eq x) ps) x) s1.variables (Ok (plain (slice_get final) v)) s1.variables []) (sym params) found) (k.gives final later);
+      let found = subst (λ vs. Runs (named (lookup (bytes_eq x) s.parameters) x) vs (Ok (plain (named final) v)) vs []) (sym vars) (h.gives final (keeps_then s.names s1.names final kept later)) in
+      gives_only (plain (named final)) r (lookup (bytes_eq x) s1.parameters) x (plain (named final) v) (g (named final)) s1.variables
+      (subst (λ ps. Runs (named (lookup (bytes_eq x) ps) x) s1.variables (Ok (plain (named final) v)) s1.variables []) (sym params) found) (k.gives final later);
 }
 
 from_step : (ps : Vars) (x : List ℕ) (o : Option Plain) (t : Tree) (ts : Trees) → next_from ps x o t >>= (λ e. eval_places ps e ts) ≡ items_from ps x o (tree t ts)

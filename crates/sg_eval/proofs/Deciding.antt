@@ -1,8 +1,9 @@
 -- Truth values, and signs before operands.
 use Rattle.std.proofs.Common.{◌≡◌, ◌+◌, ℕ, zero, suc, Bool, true, false, not, Result, Ok, Err, IsErrAnd, slice_get, refl, ap, sym, ◌∙◌, subst, arith}
+use Rattle.sg_value.specs.Known.{named}
 use Rattle.std.proofs.Math.Path.{fun_ext}
-use Rattle.sg_value.specs.Data.{int, truth, text, list, fail, semigroup, data_map, EachSemigroup}
-use Rattle.sg_value.specs.Plain.{Named, AllKnown, IsKnown, plain, generators_at}
+use Rattle.sg_value.specs.Data.{int, truth, text, list, fail, semigroup, ideal, data_map, EachThing}
+use Rattle.sg_value.specs.Plain.{Named, AllKnown, IsKnown, plain, thing_at}
 use Rattle.sg_value.specs.declared.value.Value.{Value}
 use Rattle.sg_value.specs.declared.value.Value.TheVariants as value
 use Rattle.sg_rows.specs.Order.{Plain}
@@ -31,6 +32,7 @@ decided_bind (text bs) f = refl
 decided_bind (list ds) f = refl
 decided_bind fail f = refl
 decided_bind (semigroup h) f = refl
+decided_bind (ideal h) f = refl
 
 module _ {Y B : Type 0} (view : Named → Y → B) (known : Named → Y → Type 0) (v : Value) (s : State) (f : Named → Bool → Process B) where
   -- a value that is no truth value
@@ -50,8 +52,8 @@ module _ {Y B : Type 0} (view : Named → Y → B) (known : Named → Y → Type
 -- a truth value at once
 pub evaluates_truth : (b c : Bool) (s : State) → b ≡ c → Evaluates plain AllKnown (Ok (value.Bool b)) s s (λ names. gives (truth c))
 evaluates_truth b c s same =
-    evaluates_gives plain AllKnown (value.Bool b) s (λ names. truth c) (subst (EachSemigroup (IsKnown (slice_get s.names))) (sym (contents-Bool b)) tt)
-    (λ final later. ap (data_map (generators_at (slice_get final))) (contents-Bool b) ∙ ap truth same)
+    evaluates_gives plain AllKnown (value.Bool b) s (λ names. truth c) (subst (EachThing (IsKnown (named s.names))) (sym (contents-Bool b)) tt)
+    (λ final later. ap (data_map (thing_at (named final))) (contents-Bool b) ∙ ap truth same)
 
 not_not : (b : Bool) → not (not b) ≡ b
 not_not true = refl

@@ -1,9 +1,10 @@
 -- What a call over a machine gives, after what another gave.
 use Rattle.std.proofs.Common.{◌≡◌, ℕ, List, [], Result, Ok, Err, OnOk, IfOk, IsErrAnd, slice_get, refl, ap, sym, ◌∙◌, subst}
+use Rattle.sg_value.specs.Known.{Known, named}
 use Rattle.std.specs.declared.alloc.AllocError.{AllocError}
 use Rattle.std.proofs.Math.Path.{fun_ext}
 use Rattle.std.proofs.lemmas.Result.{err_from_is_err_and}
-use Rattle.sg_value.specs.Data.{Items, list}
+use Rattle.sg_value.specs.Data.{Items, list, Kind}
 use Rattle.sg_value.specs.Plain.{Named, AllKnown, AllKnownIn, contents, contents_of_all, plain, plain_of_all}
 use Rattle.sg_value.specs.declared.value.Value.{Value}
 use Rattle.sg_store.specs.Interned.{Keeps}
@@ -20,10 +21,10 @@ use Rattle.sg_eval.specs.State.{State}
 use Rattle.sg_eval.specs.Vars.{Vars}
 use Rattle.sg_eval.proofs.Runs.{runs_then, runs_refused}
 
-pub keeps_then : (a b c : List (List ℕ)) → Keeps a b → Keeps b c → Keeps a c
+pub keeps_then : (a b c : Known) → Keeps a b → Keeps b c → Keeps a c
 keeps_then a b c h g = λ i gens is. g i gens (h i gens is)
 
-pub keeps_all : (a : List (List ℕ)) → Keeps a a
+pub keeps_all : (a : Known) → Keeps a a
 keeps_all a = λ i gens is. is
 
 gives_then : {Y A B : Type 0} (view : Y → B) (p : Process A) (f : A → Process B) (vars : Vars) (a : A) (r : Result Y CallFault) → Runs p vars (Ok a) vars [] → Gives view r (f a) vars → Gives view r (p >>= f) vars
@@ -45,9 +46,9 @@ evaluates_then view known view' known' x r s s1 s2 p f h g = record {
   variables = g.variables ∙ h.variables;
   parameters = end_parameters r s.parameters s1.parameters s2.parameters h.parameters g.parameters;
   is_known = g.is_known;
-  gives = λ final later. gives_then (view' (slice_get final)) (p (slice_get final)) (f (slice_get final)) s.variables (view (slice_get final) x) r
+  gives = λ final later. gives_then (view' (named final)) (p (named final)) (f (named final)) s.variables (view (named final) x) r
       (h.gives final (keeps_then s1.names s2.names final g.keeps later))
-      (subst (λ vs. Gives (view' (slice_get final)) r (f (slice_get final) (view (slice_get final) x)) vs) h.variables (g.gives final later));
+      (subst (λ vs. Gives (view' (named final)) r (f (named final) (view (named final) x)) vs) h.variables (g.gives final later));
 }
 
 gives_refused : {X Y A B : Type 0} (view : X → A) (view' : Y → B) (p : Process A) (f : A → Process B) (vars : Vars) (e : CallFault) → Gives view (Err e) p vars → Gives view' (Err e) (p >>= f) vars
@@ -66,7 +67,7 @@ evaluates_exit {X} {Y} {A} {B} view known view' known' r e s s1 p f failed h =
       variables = h.variables;
       parameters = tt;
       is_known = tt;
-      gives = λ final later. gives_refused (view (slice_get final)) (view' (slice_get final)) (p (slice_get final)) (f (slice_get final)) s.variables e (h.gives final later);
+      gives = λ final later. gives_refused (view (named final)) (view' (named final)) (p (named final)) (f (named final)) s.variables e (h.gives final later);
     })
 
 -- memory ran out
@@ -77,36 +78,36 @@ evaluates_memory view known r m s s1 p keeps same failed =
     subst (λ t. Evaluates view known t s s1 p) (sym (q.1 ∙ ap Err q.2)) (record { keeps = keeps; variables = same; parameters = tt; is_known = tt; gives = λ final later. tt })
 
 -- a value that is there at once
-pub evaluates_gives : {Y B : Type 0} (view : Named → Y → B) (known : Named → Y → Type 0) (y : Y) (s : State) (b : Named → B) → known (slice_get s.names) y
-    → ((final : List (List ℕ)) → Keeps s.names final → view (slice_get final) y ≡ b (slice_get final)) → Evaluates view known (Ok y) s s (λ names. gives (b names))
+pub evaluates_gives : {Y B : Type 0} (view : Named → Y → B) (known : Named → Y → Type 0) (y : Y) (s : State) (b : Named → B) → known (named s.names) y
+    → ((final : Known) → Keeps s.names final → view (named final) y ≡ b (named final)) → Evaluates view known (Ok y) s s (λ names. gives (b names))
 evaluates_gives view known y s b is same = record { keeps = keeps_all s.names; variables = refl; parameters = refl; is_known = is; gives = λ final later. (ap Ok (same final later), refl, refl) }
 
 -- the data of a value, over a later store
-pub known_later : (a b : List (List ℕ)) (v : Value) → Keeps a b → AllKnown (slice_get a) v → AllKnown (slice_get b) v
-known_later a b v kept known = (data_map-kept (slice_get a) (slice_get b) kept (contents v) known).0
+pub known_later : (a b : Known) (v : Value) → Keeps a b → AllKnown (named a) v → AllKnown (named b) v
+known_later a b v kept known = (data_map-kept (named a) (named b) kept (contents v) known).0
 
-pub plain_later : (a b : List (List ℕ)) (v : Value) → Keeps a b → AllKnown (slice_get a) v → plain (slice_get b) v ≡ plain (slice_get a) v
-plain_later a b v kept known = (data_map-kept (slice_get a) (slice_get b) kept (contents v) known).1
+pub plain_later : (a b : Known) (v : Value) → Keeps a b → AllKnown (named a) v → plain (named b) v ≡ plain (named a) v
+plain_later a b v kept known = (data_map-kept (named a) (named b) kept (contents v) known).1
 
-pub all_known_later : (a b : List (List ℕ)) (vs : List Value) → Keeps a b → AllKnownIn (slice_get a) vs → AllKnownIn (slice_get b) vs
-all_known_later a b vs kept known = (data_map-kept (slice_get a) (slice_get b) kept (list (contents_of_all vs)) known).0
+pub all_known_later : (a b : Known) (vs : List Value) → Keeps a b → AllKnownIn (named a) vs → AllKnownIn (named b) vs
+all_known_later a b vs kept known = (data_map-kept (named a) (named b) kept (list (contents_of_all vs)) known).0
 
-list_injective : {H : Type 0} (ds es : Items H) → list ds ≡ list es → ds ≡ es
+list_injective : {H : Kind → Type 0} (ds es : Items H) → list ds ≡ list es → ds ≡ es
 list_injective ds es h = cc
 
-pub plain_of_all_later : (a b : List (List ℕ)) (vs : List Value) → Keeps a b → AllKnownIn (slice_get a) vs → plain_of_all (slice_get b) vs ≡ plain_of_all (slice_get a) vs
+pub plain_of_all_later : (a b : Known) (vs : List Value) → Keeps a b → AllKnownIn (named a) vs → plain_of_all (named b) vs ≡ plain_of_all (named a) vs
 plain_of_all_later a b vs kept known =
-    list_injective (plain_of_all (slice_get b) vs) (plain_of_all (slice_get a) vs) (data_map-kept (slice_get a) (slice_get b) kept (list (contents_of_all vs)) known).1
+    list_injective (plain_of_all (named b) vs) (plain_of_all (named a) vs) (data_map-kept (named a) (named b) kept (list (contents_of_all vs)) known).1
 
 -- what a row replied is what the query gives
-reply_gives : (old new final : List (List ℕ)) (r : Result Value CallFault) (c : Case) (q : Query) (vars : Vars) → ((s : Reply) → IsReply c s → IsAnswer q s) → Replies r new c → Keeps new final
-    → Gives (plain (slice_get final)) r (ask q) vars
+reply_gives : (old new final : Known) (r : Result Value CallFault) (c : Case) (q : Query) (vars : Vars) → ((s : Reply) → IsReply c s → IsAnswer q s) → Replies r new c → Keeps new final
+    → Gives (plain (named final)) r (ask q) vars
 reply_gives old new final (Ok v) c q vars same h later =
-    subst (λ d. Runs (ask q) vars (Ok d) vars []) (sym (plain_later new final v later h.1)) (Ok (plain (slice_get new) v), same (Ok (plain (slice_get new) v)) h.0, (refl, refl, refl))
+    subst (λ d. Runs (ask q) vars (Ok d) vars []) (sym (plain_later new final v later h.1)) (Ok (plain (named new) v), same (Ok (plain (named new) v)) h.0, (refl, refl, refl))
 reply_gives old new final (Err (Script e)) c q vars same h later = (Err e, same (Err e) h, (refl, refl, refl))
 reply_gives old new final (Err (Memory m)) c q vars same h later = tt
 
-reply_known : (new : List (List ℕ)) (r : Result Value CallFault) (c : Case) → Replies r new c → IfOk r (AllKnown (slice_get new))
+reply_known : (new : Known) (r : Result Value CallFault) (c : Case) → Replies r new c → IfOk r (AllKnown (named new))
 reply_known new (Ok v) c h = h.1
 reply_known new (Err (Script e)) c h = tt
 reply_known new (Err (Memory m)) c h = tt
@@ -117,13 +118,13 @@ parameters_stay (Err e) a b is = tt
 
 -- a row replied to a query
 pub evaluates_reply : (r : Result Value CallFault) (s s1 : State) (c : Case) (q : Named → Query) → Keeps s.names s1.names → s1.variables ≡ s.variables → s1.parameters ≡ s.parameters
-    → ((final : List (List ℕ)) → Keeps s1.names final → (t : Reply) → IsReply c t → IsAnswer (q (slice_get final)) t) → Replies r s1.names c → Evaluates plain AllKnown r s s1 (λ names. ask (q names))
+    → ((final : Known) → Keeps s1.names final → (t : Reply) → IsReply c t → IsAnswer (q (named final)) t) → Replies r s1.names c → Evaluates plain AllKnown r s s1 (λ names. ask (q names))
 evaluates_reply r s s1 c q keeps variables parameters same h = record {
   keeps = keeps;
   variables = variables;
   parameters = parameters_stay r s.parameters s1.parameters parameters;
   is_known = reply_known s1.names r c h;
-  gives = λ final later. reply_gives s.names s1.names final r c (q (slice_get final)) s.variables (same final later) h later;
+  gives = λ final later. reply_gives s.names s1.names final r c (q (named final)) s.variables (same final later) h later;
 }
 
 -- of two processes that are the same, over each store
@@ -140,13 +141,13 @@ evaluates_on view known view' known' x r s s1 s2 p f h g =
 
 -- of two processes that are the same over each later store
 pub evaluates_later : {Y B : Type 0} (view : Named → Y → B) (known : Named → Y → Type 0) (r : Result Y CallFault) (s s1 : State) (p q : Named → Process B)
-    → ((final : List (List ℕ)) → Keeps s.names final → p (slice_get final) ≡ q (slice_get final)) → Evaluates view known r s s1 p → Evaluates view known r s s1 q
+    → ((final : Known) → Keeps s.names final → p (named final) ≡ q (named final)) → Evaluates view known r s s1 p → Evaluates view known r s s1 q
 evaluates_later view known r s s1 p q same h = record {
   keeps = h.keeps;
   variables = h.variables;
   parameters = h.parameters;
   is_known = h.is_known;
-  gives = λ final later. subst (λ k. Gives (view (slice_get final)) r k s.variables) (same final (keeps_then s.names s1.names final h.keeps later)) (h.gives final later);
+  gives = λ final later. subst (λ k. Gives (view (named final)) r k s.variables) (same final (keeps_then s.names s1.names final h.keeps later)) (h.gives final later);
 }
 
 -- a call between the coming and the going of a parameter
@@ -156,8 +157,8 @@ evaluates_bound view known y s s1 s2 s3 p names1 vars1 h names3 vars3 params3 = 
   keeps = subst (λ a. Keeps a s3.names) names1 (subst (Keeps s1.names) (sym names3) h.keeps);
   variables = vars3 ∙ (h.variables ∙ vars1);
   parameters = params3;
-  is_known = subst (λ a. known (slice_get a) y) (sym names3) h.is_known;
-  gives = λ final later. subst (Gives (view (slice_get final)) (Ok y) (p (slice_get final))) vars1 (h.gives final (subst (λ a. Keeps a final) names3 later));
+  is_known = subst (λ a. known (named a) y) (sym names3) h.is_known;
+  gives = λ final later. subst (Gives (view (named final)) (Ok y) (p (named final))) vars1 (h.gives final (subst (λ a. Keeps a final) names3 later));
 }
 
 -- the same where the call was refused, and the parameter may stay
@@ -171,7 +172,7 @@ evaluates_bound_exit {X} {Y} {B} view known view' known' r e s s1 s2 p names1 va
       variables = h.variables ∙ vars1;
       parameters = tt;
       is_known = tt;
-      gives = λ final later. subst (Gives (view' (slice_get final)) (Err e) (p (slice_get final))) vars1 (refused_alike (view (slice_get final)) (view' (slice_get final)) e (p (slice_get final)) s1.variables (h.gives final later));
+      gives = λ final later. subst (Gives (view' (named final)) (Err e) (p (named final))) vars1 (refused_alike (view (named final)) (view' (named final)) e (p (named final)) s1.variables (h.gives final later));
     })
   where
     refused_alike : {X Y B : Type 0} (view : X → B) (view' : Y → B) (e : CallFault) (p : Process B) (vars : Vars) → Gives view (Err e) p vars → Gives view' (Err e) p vars

@@ -1,5 +1,6 @@
 -- Pieces of a statement, one after the other.
 use Rattle.std.proofs.Common.{◌≡◌, ℕ, List, [], ◌++◌, Option, Some, None, Result, Ok, Err, OnOk, IfErr, IsErrAnd, slice_get, inl, inr, refl, ap, sym, ◌∙◌, subst, append_assoc, append-nil}
+use Rattle.sg_value.specs.Known.{named}
 use Rattle.std.proofs.lemmas.Result.{err_from_is_err_and}
 use Rattle.std.specs.Io.KnownBytes.{append_known}
 use Rattle.sg_io.specs.Faults.{AppendsFront}
@@ -63,14 +64,14 @@ executed_in {A} {B} p f r e s s1 o o1 failed h =
 
 -- an expression gave a value, and what comes of it
 pub executed_value : {X A B : Type 0} (view : Named → X → A) (known : Named → X → Type 0) (p : Process A) (f : A → Process B) (x : X) (r : Result B StepFault) (s s1 s2 : State) (o o2 : Option (List ℕ))
-    → Evaluates view known (Ok x) s s1 (λ names. p) → Executed r s1 s2 o o2 (f (view (slice_get s1.names) x)) → Executed r s s2 o o2 (p >>= f)
+    → Evaluates view known (Ok x) s s1 (λ names. p) → Executed r s1 s2 o o2 (f (view (named s1.names) x)) → Executed r s s2 o o2 (p >>= f)
 executed_value view known p f x r s s1 s2 o o2 h g = record {
   keeps = keeps_then s.names s1.names s2.names h.keeps g.keeps;
   parameters = g.parameters;
   gained = g.gained;
   appended = g.appended;
-  does = does_then p f s.variables s.variables s2.variables (view (slice_get s1.names) x) [] g.gained (h.gives s1.names (keeps_all s1.names)) r
-      (subst (λ vs. Does r (f (view (slice_get s1.names) x)) vs s2.variables g.gained) h.variables g.does);
+  does = does_then p f s.variables s.variables s2.variables (view (named s1.names) x) [] g.gained (h.gives s1.names (keeps_all s1.names)) r
+      (subst (λ vs. Does r (f (view (named s1.names) x)) vs s2.variables g.gained) h.variables g.does);
 }
 
 -- an expression was refused
@@ -88,7 +89,7 @@ executed_exit {X} {A} {B} view known p f r e s s1 o failed h =
       parameters = tt;
       gained = [];
       appended = append_known-nil o;
-      does = subst (λ vs. Does {A = B} (Err (step_fault e)) (p >>= f) s.variables vs []) (sym h.variables) (gives_fault (view (slice_get s1.names)) p f s.variables e (h.gives s1.names (keeps_all s1.names)));
+      does = subst (λ vs. Does {A = B} (Err (step_fault e)) (p >>= f) s.variables vs []) (sym h.variables) (gives_fault (view (named s1.names)) p f s.variables e (h.gives s1.names (keeps_all s1.names)));
     })
 
 -- memory ran out before anything was done

@@ -3,7 +3,7 @@ use Rattle.std.proofs.Common.{◌≡◌, ◌<◌, ◌+◌, ℕ, zero, suc, List,
 use Rattle.std.specs.Prelude.{if◌then◌else◌}
 use Rattle.std.proofs.lemmas.List.{drop_more}
 use Rattle.sg_value.specs.Data.{Items, item}
-use Rattle.sg_value.specs.Plain.{Named, AllKnown, AllKnownIn, plain, plain_of_all}
+use Rattle.sg_value.specs.Plain.{Named, AllKnown, AllKnownIn, plain, plain_of_all, Things}
 use Rattle.sg_value.specs.declared.value.Value.{Value}
 use Rattle.sg_rows.specs.Kinds.{as_list}
 use Rattle.sg_rows.specs.Order.{Plain}
@@ -64,11 +64,11 @@ module _ (env : Vars) (fold : Folding) (gs : List Arg) (a b : Arg) (s s1 : State
       (λ names. fold_two env fold (argument_of a) (argument_of b) ∙ ap (λ x. eval_folding env x fold) (sym (two_arguments gs a b n is_first is_second))) h
 
 -- the entries, and what comes of them
-listed_bind : {A : Type 0} (o : Option (Items (List ℕ))) (f : Items (List ℕ) → Process A) → listed o (λ ds. gives ds) >>= f ≡ listed o f
+listed_bind : {A : Type 0} (o : Option (Items Things)) (f : Items Things → Process A) → listed o (λ ds. gives ds) >>= f ≡ listed o f
 listed_bind None f = refl
 listed_bind (Some ds) f = refl
 
-pub listed_if_bind : {A : Type 0} (o : Option Plain) (f : Items (List ℕ) → Process A) → listed_if o (λ ds. gives ds) >>= f ≡ listed_if o f
+pub listed_if_bind : {A : Type 0} (o : Option Plain) (f : Items Things → Process A) → listed_if o (λ ds. gives ds) >>= f ≡ listed_if o f
 listed_if_bind None f = refl
 listed_if_bind (Some d) f = listed_bind (as_list d) f
 
@@ -80,7 +80,7 @@ known_at names [] i v within is all = absurd (omega (arith, within))
 known_at names (u ∷ vs) zero v within is all = subst (AllKnown names) (sym is) all.0
 known_at names (u ∷ vs) (suc i) v within is all = known_at names vs i v (omega (arith, within)) is all.1
 
-module _ (ps : Vars) (x : List ℕ) (t : Tree) (fold : Folding) (s s1 : State) (v : Value) (vs : List Value) (rest : Named → Items (List ℕ)) (same : s.parameters ≡ ps) where
+module _ (ps : Vars) (x : List ℕ) (t : Tree) (fold : Folding) (s s1 : State) (v : Value) (vs : List Value) (rest : Named → Items Things) (same : s.parameters ≡ ps) where
   abbrev over : Plain → Process Plain
   over e = eval ((x, e) ∷ ps) t
 

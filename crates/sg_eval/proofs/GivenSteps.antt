@@ -1,10 +1,11 @@
 -- Arguments, one after the other.
 use Rattle.std.proofs.Common.{◌≡◌, ◌<◌, ◌+◌, ℕ, suc, List, [], ◌∷◌, length, get_or, drop, Option, Some, None, MatchOption, length-append, Result, Ok, Err, IsErrAnd, Vec, Global, slice_get, refl, ap, sym, ◌∙◌, subst}
+use Rattle.sg_value.specs.Known.{Known, named}
 use Rattle.std.proofs.Math.Path.{fun_ext}
 use Rattle.std.proofs.lemmas.List.{drop_more}
 use Rattle.std.specs.Option.{option_map}
 use Rattle.sg_value.specs.Data.{Items, none, item}
-use Rattle.sg_value.specs.Plain.{Named, plain_of_all}
+use Rattle.sg_value.specs.Plain.{Named, plain_of_all, Things}
 use Rattle.sg_value.specs.declared.value.Value.{Value}
 use Rattle.sg_rows.specs.Order.{Plain}
 use Rattle.sg_rows.specs.Words.{join}
@@ -36,29 +37,29 @@ pub count-arguments : (gs : List Arg) → argument_count (arguments_of gs) ≡ l
 count-arguments [] = refl
 count-arguments (g ∷ gs) = ap suc (count-arguments gs)
 
-abbrev pub joined_where : Option (Items (List ℕ)) → Option (Items (List ℕ)) → Option (Items (List ℕ))
+abbrev pub joined_where : Option (Items Things) → Option (Items Things) → Option (Items Things)
 joined_where None ds = None
 joined_where (Some es) ds = option_map (join es) ds
 
-abbrev pub with_where : Option (Items (List ℕ)) → Option Plain → Option (Items (List ℕ))
+abbrev pub with_where : Option (Items Things) → Option Plain → Option (Items Things)
 with_where None d = None
 with_where (Some es) None = None
 with_where (Some es) (Some d) = Some (join es (item d none))
 
 -- the values so far, before those of the arguments that are left
-abbrev pub after_given : Vars → Arguments → Option (Items (List ℕ)) → Process (Option (Items (List ℕ)))
+abbrev pub after_given : Vars → Arguments → Option (Items Things) → Process (Option (Items Things))
 after_given ps args o = eval_given ps args >>= (λ ds. gives (joined_where o ds))
 
-joined-with : (o : Option (Items (List ℕ))) (d : Plain) (ds : Option (Items (List ℕ))) → joined_where (with_where o (Some d)) ds ≡ joined_where o (option_map (item d) ds)
+joined-with : (o : Option (Items Things)) (d : Plain) (ds : Option (Items Things)) → joined_where (with_where o (Some d)) ds ≡ joined_where o (option_map (item d) ds)
 joined-with None d ds = refl
 joined-with (Some es) d None = refl
 joined-with (Some es) d (Some ds) = ap Some (join-one es d ds)
 
-joined-without : (o ds : Option (Items (List ℕ))) → joined_where (with_where o None) ds ≡ joined_where o None
+joined-without : (o ds : Option (Items Things)) → joined_where (with_where o None) ds ≡ joined_where o None
 joined-without None ds = refl
 joined-without (Some es) ds = refl
 
-pub given_step : (ps : Vars) (a : Argument) (others : Arguments) (o : Option (Items (List ℕ))) → eval_argument ps a >>= (λ d. after_given ps others (with_where o d)) ≡ after_given ps (argument a others) o
+pub given_step : (ps : Vars) (a : Argument) (others : Arguments) (o : Option (Items Things)) → eval_argument ps a >>= (λ d. after_given ps others (with_where o d)) ≡ after_given ps (argument a others) o
 given_step ps (plain_argument t) others o =
     assoc (eval ps t) (λ d. gives (Some d)) (λ d. after_given ps others (with_where o d))
     ∙ (ap (λ k. eval ps t >>= k) (fun_ext (λ d. ap (λ k. eval_given ps others >>= k) (fun_ext (λ ds. ap gives (joined-with o d ds))) ∙ sym (assoc (eval_given ps others) (λ ds. gives (option_map (item d) ds)) (λ ds. gives (joined_where o ds)))))
@@ -72,10 +73,10 @@ plain_with names (Some vs) None p is = ap (plain_where names) is
 plain_with names (Some vs) (Some v) None is = absurd is
 plain_with names (Some vs) (Some v) (Some ws) is = ap Some (ap (plain_of_all names) is ∙ plain_of_all-more names vs.items v)
 
-right_unit_where : (p : Process (Option (Items (List ℕ)))) → p >>= (λ ds. gives (joined_where (Some none) ds)) ≡ p
+right_unit_where : (p : Process (Option (Items Things))) → p >>= (λ ds. gives (joined_where (Some none) ds)) ≡ p
 right_unit_where p = ap (λ k. p >>= k) (fun_ext (λ ds. ap gives (joined-nothing ds))) ∙ right_unit p
   where
-    joined-nothing : (ds : Option (Items (List ℕ))) → joined_where (Some none) ds ≡ ds
+    joined-nothing : (ds : Option (Items Things)) → joined_where (Some none) ds ≡ ds
     joined-nothing None = refl
     joined-nothing (Some ds) = refl
 
@@ -84,7 +85,7 @@ pub given_none : (ps : Vars) (args : Arguments) (names : Named) (vs : Vec Value 
 given_none ps args names vs is = ap (λ ws. after_given ps args (Some (plain_of_all names ws))) is ∙ right_unit_where (eval_given ps args)
 
 -- no argument is left
-pub given_over : (ps : Vars) (o : Option (Items (List ℕ))) → gives o ≡ after_given ps no_arguments o
+pub given_over : (ps : Vars) (o : Option (Items Things)) → gives o ≡ after_given ps no_arguments o
 given_over ps None = refl
 given_over ps (Some es) = ap (λ ds. gives (Some ds)) (sym (join-none es))
 
@@ -94,7 +95,7 @@ known_with names (Some vs) None p is all is_known = subst (known_where names) (s
 known_with names (Some vs) (Some v) None is all is_known = tt
 known_with names (Some vs) (Some v) (Some ws) is all is_known = all_known_more names vs.items ws.items v is all is_known
 
-pub known_where_later : (a b : List (List ℕ)) (o : Option (Vec Value Global)) → Keeps a b → known_where (slice_get a) o → known_where (slice_get b) o
+pub known_where_later : (a b : Known) (o : Option (Vec Value Global)) → Keeps a b → known_where (named a) o → known_where (named b) o
 known_where_later a b None kept all = tt
 known_where_later a b (Some vs) kept all = all_known_later a b vs.items kept all
 

@@ -1,9 +1,10 @@
 -- Variables over a later store, and values found by their names.
 use Rattle.std.proofs.Common.{◌≡◌, ◌∷◌, ℕ, suc, List, [], Option, Some, None, Ok, length, get_or, slice_get, refl, ap, ap₂, sym, ◌∙◌, subst, arith}
+use Rattle.sg_value.specs.Known.{Known, named}
 use Rattle.std.specs.Map.{lookup}
 use Rattle.std.specs.Str.{bytes_eq}
-use Rattle.sg_value.specs.Data.{data_map, EachSemigroup}
-use Rattle.sg_value.specs.Plain.{AllKnown, AllKnownIn, contents, plain, plain_of_all, generators_at, IsKnown}
+use Rattle.sg_value.specs.Data.{data_map, EachThing}
+use Rattle.sg_value.specs.Plain.{AllKnown, AllKnownIn, contents, plain, plain_of_all, thing_at, IsKnown}
 use Rattle.sg_value.specs.declared.value.Value.{Value}
 use Rattle.sg_store.specs.Interned.{Keeps}
 use Rattle.sg_rows.specs.Order.{Plain, Reply, IsReply}
@@ -18,10 +19,10 @@ use Rattle.sg_eval.specs.State.{State, vars_of, AreKnown}
 use Rattle.sg_eval.specs.declared.variable.Variable.{Variable}
 use Rattle.sg_eval.proofs.Evaluating.{known_later, plain_later, plain_of_all_later, evaluates_gives, keeps_all}
 
-pub are_known_later : (a b : List (List ℕ)) (vs : List Variable) → Keeps a b → AreKnown a vs → AreKnown b vs
+pub are_known_later : (a b : Known) (vs : List Variable) → Keeps a b → AreKnown a vs → AreKnown b vs
 are_known_later a b vs kept known = λ k d within. known_later a b (get_or vs k d).value kept (known k d within)
 
-pub vars_later : (a b : List (List ℕ)) (vs : List Variable) → Keeps a b → AreKnown a vs → vars_of b vs ≡ vars_of a vs
+pub vars_later : (a b : Known) (vs : List Variable) → Keeps a b → AreKnown a vs → vars_of b vs ≡ vars_of a vs
 vars_later a b [] kept is_known = refl
 vars_later a b (v ∷ vs) kept is_known =
     ap₂ (λ (d : Plain) rest. (v.name, d) ∷ rest) (plain_later a b v.value kept (is_known 0 v (omega arith))) (vars_later a b vs kept (λ k d within. is_known (suc k) d (omega (arith, within))))
@@ -31,35 +32,35 @@ entry_count-plain names [] = refl
 entry_count-plain names (v ∷ vs) = ap suc (entry_count-plain names vs)
 
 -- the reply to a call whose name and number of arguments are right
-pub call_answered : (a b : List (List ℕ)) (vs : List Value) (name : List ℕ) (t : Reply) → Keeps a b → AllKnownIn (slice_get a) vs → checked name (length vs) ≡ None
-    → IsReply (case_of (command_named name) (plain_of_all (slice_get a) vs)) t → Answer name (plain_of_all (slice_get b) vs) t
+pub call_answered : (a b : Known) (vs : List Value) (name : List ℕ) (t : Reply) → Keeps a b → AllKnownIn (named a) vs → checked name (length vs) ≡ None
+    → IsReply (case_of (command_named name) (plain_of_all (named a) vs)) t → Answer name (plain_of_all (named b) vs) t
 call_answered a b vs name t kept is_known right h =
     subst (λ ds. Answer name ds t) (sym (plain_of_all_later a b vs kept is_known))
-    (subst (λ o. reply_unless o (plain_of_all (slice_get a) vs) (command_named name) t) (sym (ap (checked name) (entry_count-plain (slice_get a) vs) ∙ right)) h)
+    (subst (λ o. reply_unless o (plain_of_all (named a) vs) (command_named name) t) (sym (ap (checked name) (entry_count-plain (named a) vs) ∙ right)) h)
 
 -- a copy of a value
 pub copy_plain : (names : ℕ → Option (List ℕ)) (v w : Value) → contents w ≡ contents v → plain names w ≡ plain names v
-copy_plain names v w h = ap (data_map (generators_at names)) h
+copy_plain names v w h = ap (data_map (thing_at names)) h
 
 pub copy_known : (names : ℕ → Option (List ℕ)) (v w : Value) → contents w ≡ contents v → AllKnown names v → AllKnown names w
-copy_known names v w h is_known = subst (EachSemigroup (IsKnown names)) (sym h) is_known
+copy_known names v w h is_known = subst (EachThing (IsKnown names)) (sym h) is_known
 
-pub parameter_found : (s : State) (name : List ℕ) (v w : Value) → lookup (bytes_eq name) s.parameters ≡ Some (plain (slice_get s.names) v) → AllKnown (slice_get s.names) v → contents w ≡ contents v
+pub parameter_found : (s : State) (name : List ℕ) (v w : Value) → lookup (bytes_eq name) s.parameters ≡ Some (plain (named s.names) v) → AllKnown (named s.names) v → contents w ≡ contents v
     → Evaluates plain AllKnown (Ok w) s s (λ names. named (lookup (bytes_eq name) s.parameters) name)
 parameter_found s name v w found is_known copy =
     subst (λ o. Evaluates plain AllKnown (Ok w) s s (λ names. named o name)) (sym found)
-    (evaluates_gives plain AllKnown w s (λ names. plain (slice_get s.names) v) (copy_known (slice_get s.names) v w copy is_known)
-    (λ final later. copy_plain (slice_get final) v w copy ∙ plain_later s.names final v later is_known))
+    (evaluates_gives plain AllKnown w s (λ names. plain (named s.names) v) (copy_known (named s.names) v w copy is_known)
+    (λ final later. copy_plain (named final) v w copy ∙ plain_later s.names final v later is_known))
 
-pub variable_found : (s : State) (name : List ℕ) (v w : Value) → lookup (bytes_eq name) s.parameters ≡ None → lookup (bytes_eq name) s.variables ≡ Some (plain (slice_get s.names) v)
-    → AllKnown (slice_get s.names) v → contents w ≡ contents v → Evaluates plain AllKnown (Ok w) s s (λ names. named (lookup (bytes_eq name) s.parameters) name)
+pub variable_found : (s : State) (name : List ℕ) (v w : Value) → lookup (bytes_eq name) s.parameters ≡ None → lookup (bytes_eq name) s.variables ≡ Some (plain (named s.names) v)
+    → AllKnown (named s.names) v → contents w ≡ contents v → Evaluates plain AllKnown (Ok w) s s (λ names. named (lookup (bytes_eq name) s.parameters) name)
 variable_found s name v w absent found is_known copy =
     subst (λ o. Evaluates plain AllKnown (Ok w) s s (λ names. named o name)) (sym absent)
     (record {
       keeps = keeps_all s.names;
       variables = refl;
       parameters = refl;
-      is_known = copy_known (slice_get s.names) v w copy is_known;
-      gives = λ final later. subst (λ o. Runs (known o) s.variables (Ok (plain (slice_get final) w)) s.variables []) (sym found)
-          (ap Ok (copy_plain (slice_get final) v w copy ∙ plain_later s.names final v later is_known), refl, refl);
+      is_known = copy_known (named s.names) v w copy is_known;
+      gives = λ final later. subst (λ o. Runs (known o) s.variables (Ok (plain (named final) w)) s.variables []) (sym found)
+          (ap Ok (copy_plain (named final) v w copy ∙ plain_later s.names final v later is_known), refl, refl);
     })

@@ -1,10 +1,12 @@
 -- Expressions over lawful parameters and variables ask about lawful values, and give such.
 use Rattle.std.proofs.Common.{ℕ, zero, suc, ℤ, pos, Bool, true, false, not, List, [], ◌∷◌, Option, Some, None, Ok, Err}
+use Rattle.sg_value.specs.Plain.{Things}
+use Rattle.sg_value.specs.Known.{named}
 use Rattle.std.specs.Prelude.{if◌then◌else◌, IfSome, ⊤}
 use Rattle.std.specs.Map.{lookup}
 use Rattle.std.specs.Str.{bytes_eq}
 use Rattle.std.specs.Option.{option_map}
-use Rattle.sg_value.specs.Data.{int, truth as a_truth, text, list, fail, semigroup, Items, none, item}
+use Rattle.sg_value.specs.Data.{int, truth as a_truth, text, list, fail, semigroup, ideal, Items, none, item}
 use Rattle.sg_tree.specs.Tree.{Tree, number, quoted, truth, failing, variable, call, display, span, item as item_tree, minus, negation, chain, compare, Trees, no_trees, tree, plain, arrow, Arguments, no_arguments, argument, Links, no_links, link}
 use Rattle.sg_tree.specs.declared.expr.Op.TheVariants.{Or, And, Plus, Less, Times, Mod}
 use Rattle.sg_calls.specs.declared.operator.Operator.TheVariants as operator
@@ -46,9 +48,10 @@ decided_lawful M (text bs) f h = tt
 decided_lawful M (list ds) f h = tt
 decided_lawful M fail f h = tt
 decided_lawful M (semigroup G) f h = tt
+decided_lawful M (ideal G) f h = tt
 
-pub listed_lawful : {A : Type 0} (M : A → Type 0) (o : Option (Items (List ℕ))) (f : Items (List ℕ) → Process A) → IfSome o AreLawful →
-    ((ds : Items (List ℕ)) → AreLawful ds → StaysLawful M (f ds)) → StaysLawful M (listed o f)
+pub listed_lawful : {A : Type 0} (M : A → Type 0) (o : Option (Items Things)) (f : Items Things → Process A) → IfSome o AreLawful →
+    ((ds : Items Things) → AreLawful ds → StaysLawful M (f ds)) → StaysLawful M (listed o f)
 listed_lawful M None f l h = tt
 listed_lawful M (Some ds) f l h = h ds l
 
@@ -56,7 +59,7 @@ pub if_lawful : {A : Type 0} (M : A → Type 0) (b : Bool) (p q : Process A) →
 if_lawful M true p q h k = h
 if_lawful M false p q h k = k
 
-if_items : (b : Bool) (ds es : Items (List ℕ)) → AreLawful ds → AreLawful es → AreLawful (if b then ds else es)
+if_items : (b : Bool) (ds es : Items Things) → AreLawful ds → AreLawful es → AreLawful (if b then ds else es)
 if_items true ds es h k = h
 if_items false ds es h k = k
 
@@ -69,46 +72,46 @@ unless_lawful M (Some e) p h = tt
 unless_lawful M None p h = h
 
 -- all arguments, where none is an arrow
-abbrev pub AreLawfulIf : Option (Items (List ℕ)) → Type 0
+abbrev pub AreLawfulIf : Option (Items Things) → Type 0
 AreLawfulIf o = IfSome o AreLawful
 
-plain_alone_lawful : (o : Option (Items (List ℕ))) (f : Items (List ℕ) → Process Plain) → IfSome o AreLawful →
-    ((ds : Items (List ℕ)) → AreLawful ds → StaysLawful IsLawful (f ds)) → StaysLawful IsLawful (plain_alone o f)
+plain_alone_lawful : (o : Option (Items Things)) (f : Items Things → Process Plain) → IfSome o AreLawful →
+    ((ds : Items Things) → AreLawful ds → StaysLawful IsLawful (f ds)) → StaysLawful IsLawful (plain_alone o f)
 plain_alone_lawful None f l h = tt
 plain_alone_lawful (Some ds) f l h = h ds l
 
-called_lawful : (o : Option Folding) (name : List ℕ) (n : ℕ) (args : Process (Option (Items (List ℕ)))) (fold : Folding → Process Plain) →
+called_lawful : (o : Option Folding) (name : List ℕ) (n : ℕ) (args : Process (Option (Items Things))) (fold : Folding → Process Plain) →
     StaysLawful AreLawfulIf args → ((f : Folding) → StaysLawful IsLawful (fold f)) → StaysLawful IsLawful (called o name n args fold)
 called_lawful (Some f) name n args fold h k = k f
 called_lawful None name n args fold h k = unless_lawful IsLawful (checked name n) (args >>= (λ values. plain_alone values (λ ds. ask (calls name ds))))
     (then_lawful AreLawfulIf IsLawful args (λ values. plain_alone values (λ ds. ask (calls name ds))) h
     (λ o l. plain_alone_lawful o (λ ds. ask (calls name ds)) l (λ ds m. ask_lawful (calls name ds) m)))
 
-with_lawful : (d : Plain) (o : Option (Items (List ℕ))) → IsLawful d → IfSome o AreLawful → IfSome (option_map (item d) o) AreLawful
+with_lawful : (d : Plain) (o : Option (Items Things)) → IsLawful d → IfSome o AreLawful → IfSome (option_map (item d) o) AreLawful
 with_lawful d None l h = tt
 with_lawful d (Some ds) l h = (l, h)
 
 -- ---- arrows
 
 module _ (f : Plain → Process Plain) (each : (d : Plain) → IsLawful d → StaysLawful IsLawful (f d)) where
-  values_lawful : (ds : Items (List ℕ)) → AreLawful ds → StaysLawful AreLawful (values_over f ds)
+  values_lawful : (ds : Items Things) → AreLawful ds → StaysLawful AreLawful (values_over f ds)
   values_lawful none h = tt
   values_lawful (item d ds) h = then_lawful IsLawful AreLawful (f d) (λ v. values_over f ds >>= (λ vs. gives (item v vs))) (each d h.0)
       (λ v l. then_lawful AreLawful AreLawful (values_over f ds) (λ vs. gives (item v vs)) (values_lawful ds h.1) (λ vs m. (l, m)))
 
-  true_lawful : (ds : Items (List ℕ)) → AreLawful ds → StaysLawful AreLawful (true_over f ds)
+  true_lawful : (ds : Items Things) → AreLawful ds → StaysLawful AreLawful (true_over f ds)
   true_lawful none h = tt
   true_lawful (item d ds) h = then_lawful IsLawful AreLawful (f d) (λ v. decided v (λ b. true_over f ds >>= (λ es. gives (if b then item d es else es)))) (each d h.0)
       (λ v l. decided_lawful AreLawful v (λ b. true_over f ds >>= (λ es. gives (if b then item d es else es)))
       (λ b. then_lawful AreLawful AreLawful (true_over f ds) (λ es. gives (if b then item d es else es)) (true_lawful ds h.1) (λ es m. if_items b (item d es) es (h.0, m) m)))
 
-  is_each_lawful : (b : Bool) (ds : Items (List ℕ)) → AreLawful ds → StaysLawful (λ c. ⊤) (is_each b f ds)
+  is_each_lawful : (b : Bool) (ds : Items Things) → AreLawful ds → StaysLawful (λ c. ⊤) (is_each b f ds)
   is_each_lawful b none h = tt
   is_each_lawful b (item d ds) h = then_lawful IsLawful (λ c. ⊤) (f d) (λ v. decided v (λ c. if (if b then c else not c) then is_each b f ds else gives (not b))) (each d h.0)
       (λ v l. decided_lawful (λ c. ⊤) v (λ c. if (if b then c else not c) then is_each b f ds else gives (not b))
       (λ c. if_lawful (λ c. ⊤) (if b then c else not c) (is_each b f ds) (gives (not b)) (is_each_lawful b ds h.1) tt))
 
-  folded_lawful : (fold : Folding) (ds : Items (List ℕ)) → AreLawful ds → StaysLawful IsLawful (folded fold f ds)
+  folded_lawful : (fold : Folding) (ds : Items Things) → AreLawful ds → StaysLawful IsLawful (folded fold f ds)
   folded_lawful EachValue ds h = then_lawful AreLawful IsLawful (values_over f ds) (λ vs. ask (lists vs)) (values_lawful ds h) (λ vs l. ask_lawful (lists vs) l)
   folded_lawful ThoseTrue ds h = then_lawful AreLawful IsLawful (true_over f ds) (λ es. ask (lists es)) (true_lawful ds h) (λ es l. ask_lawful (lists es) l)
   folded_lawful AllTrue ds h = then_lawful (λ b. ⊤) IsLawful (is_each true f ds) (λ b. gives (a_truth b)) (is_each_lawful true ds h) (λ b l. tt)

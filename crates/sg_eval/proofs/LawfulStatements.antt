@@ -1,5 +1,6 @@
 -- Statements over lawful variables ask about lawful values, and leave lawful variables.
 use Rattle.std.proofs.Common.{ℕ, Bool, true, false, List, [], Option, Some, None}
+use Rattle.sg_value.specs.Plain.{Things}
 use Rattle.std.specs.Prelude.{codes, if◌then◌else◌, IfSome, ⊤}
 use Rattle.std.specs.Str.{bytes_eq}
 use Rattle.sg_value.specs.Data.{Items, none, item}
@@ -20,7 +21,7 @@ use Rattle.sg_eval.proofs.LawfulExpressions.{decided_lawful, listed_lawful, if_l
 abbrev Fine : {A : Type 0} → Process A → Type 0
 Fine p = StaysLawful (λ a. ⊤) p
 
-printed_lawful : (o : Option (Items (List ℕ))) → Fine (printed o)
+printed_lawful : (o : Option (Items Things)) → Fine (printed o)
 printed_lawful None = tt
 printed_lawful (Some ds) = tt
 
@@ -49,7 +50,7 @@ done_lawful (negation n t) = dropped_lawful (negation n t)
 done_lawful (chain t ls) = dropped_lawful (chain t ls)
 done_lawful (compare r left right) = dropped_lawful (compare r left right)
 
-over_lawful : (f : Plain → Process (Unit {0})) → ((d : Plain) → IsLawful d → Fine (f d)) → (ds : Items (List ℕ)) → AreLawful ds → Fine (over f ds)
+over_lawful : (f : Plain → Process (Unit {0})) → ((d : Plain) → IsLawful d → Fine (f d)) → (ds : Items Things) → AreLawful ds → Fine (over f ds)
 over_lawful f lawful none h = tt
 over_lawful f lawful (item d ds) h = then_lawful (λ u. ⊤) (λ u. ⊤) (f d) (λ u. over f ds) (lawful d h.0) (λ u l. over_lawful f lawful ds h.1)
 

@@ -1,5 +1,6 @@
 -- Variables that are found by their names.
 use Rattle.std.proofs.Common.{◌≡◌, ℕ, zero, suc, List, [], ◌∷◌, get_or, Bool, true, false, cond, Option, Some, None, MatchOption, Bor, Result, Ok, Err, OnOk, OnErr, Vec, Global, slice_get, refl, ap, ap₂, sym, subst, arith}
+use Rattle.sg_value.specs.Known.{Known, named}
 use Rattle.std.specs.Prelude.{⊤}
 use Rattle.std.proofs.lemmas.Slice.Eq.{bytes_eq-Decides}
 use Rattle.std.specs.Str.{bytes_eq}
@@ -20,36 +21,36 @@ Entries = List (Vec ℕ Global × Value)
 abbrev pub is_named : List ℕ → Vec ℕ Global → Bool
 is_named x k = bytes_eq x k.items
 
-module _ (names : List (List ℕ)) where
-  pub values-set : (x : List ℕ) (es : Entries) (u v : Value) → Some u ≡ lookup (is_named x) es → values_of names (set_value (is_named x) es v) ≡ with_value x (plain (slice_get names) v) (values_of names es)
+module _ (names : Known) where
+  pub values-set : (x : List ℕ) (es : Entries) (u v : Value) → Some u ≡ lookup (is_named x) es → values_of names (set_value (is_named x) es v) ≡ with_value x (plain (named names) v) (values_of names es)
   values-set x [] u v found = absurd (cc)
-  values-set x (e ∷ es) u v found = (elim (bytes_eq x e.0.items) as (λ b. bytes_eq x e.0.items ≡ b → Some u ≡ lookup (is_named x) (e ∷ es) → values_of names (set_value (is_named x) (e ∷ es) v) ≡ with_value x (plain (slice_get names) v) (values_of names (e ∷ es))) [
-    | true ↦ λ t h. rw t (ap (λ n. (n, plain (slice_get names) v) ∷ values_of names es) (sym ((bytes_eq-Decides x e.0.items).0 t)))
-    | false ↦ λ t h. rw t (ap (λ vs. (e.0.items, plain (slice_get names) e.1) ∷ vs) (values-set x es u v (rw t at h)))
+  values-set x (e ∷ es) u v found = (elim (bytes_eq x e.0.items) as (λ b. bytes_eq x e.0.items ≡ b → Some u ≡ lookup (is_named x) (e ∷ es) → values_of names (set_value (is_named x) (e ∷ es) v) ≡ with_value x (plain (named names) v) (values_of names (e ∷ es))) [
+    | true ↦ λ t h. rw t (ap (λ n. (n, plain (named names) v) ∷ values_of names es) (sym ((bytes_eq-Decides x e.0.items).0 t)))
+    | false ↦ λ t h. rw t (ap (λ vs. (e.0.items, plain (named names) e.1) ∷ vs) (values-set x es u v (rw t at h)))
   ]) refl found
 
-  pub values-insert : (k : Vec ℕ Global) (es : Entries) (v : Value) → values_of names (insert_entry (λ a b. bytes_eq a.items b.items) es k v) ≡ with_value k.items (plain (slice_get names) v) (values_of names es)
+  pub values-insert : (k : Vec ℕ Global) (es : Entries) (v : Value) → values_of names (insert_entry (λ a b. bytes_eq a.items b.items) es k v) ≡ with_value k.items (plain (named names) v) (values_of names es)
   values-insert k [] v = refl
-  values-insert k (e ∷ es) v = (elim (bytes_eq k.items e.0.items) as (λ b. bytes_eq k.items e.0.items ≡ b → values_of names (insert_entry (λ a b. bytes_eq a.items b.items) (e ∷ es) k v) ≡ with_value k.items (plain (slice_get names) v) (values_of names (e ∷ es))) [
-    | true ↦ λ t. rw t (ap (λ n. (n, plain (slice_get names) v) ∷ values_of names es) (sym ((bytes_eq-Decides k.items e.0.items).0 t)))
-    | false ↦ λ t. rw t (ap (λ vs. (e.0.items, plain (slice_get names) e.1) ∷ vs) (values-insert k es v))
+  values-insert k (e ∷ es) v = (elim (bytes_eq k.items e.0.items) as (λ b. bytes_eq k.items e.0.items ≡ b → values_of names (insert_entry (λ a b. bytes_eq a.items b.items) (e ∷ es) k v) ≡ with_value k.items (plain (named names) v) (values_of names (e ∷ es))) [
+    | true ↦ λ t. rw t (ap (λ n. (n, plain (named names) v) ∷ values_of names es) (sym ((bytes_eq-Decides k.items e.0.items).0 t)))
+    | false ↦ λ t. rw t (ap (λ vs. (e.0.items, plain (named names) e.1) ∷ vs) (values-insert k es v))
   ]) refl
 
-  known-first : (e : Vec ℕ Global × Value) (es : Entries) → AllKnown (slice_get names) e.1 → AreKnownIn names es → AreKnownIn names (e ∷ es)
+  known-first : (e : Vec ℕ Global × Value) (es : Entries) → AllKnown (named names) e.1 → AreKnownIn names es → AreKnownIn names (e ∷ es)
   known-first e es h all zero d within = h
   known-first e es h all (suc k) d within = all k d (omega (arith, within))
 
   known-rest : (e : Vec ℕ Global × Value) (es : Entries) → AreKnownIn names (e ∷ es) → AreKnownIn names es
   known-rest e es all = λ k d within. all (suc k) d (omega (arith, within))
 
-  pub known-set : (x : List ℕ) (es : Entries) (v : Value) → AreKnownIn names es → AllKnown (slice_get names) v → AreKnownIn names (set_value (is_named x) es v)
+  pub known-set : (x : List ℕ) (es : Entries) (v : Value) → AreKnownIn names es → AllKnown (named names) v → AreKnownIn names (set_value (is_named x) es v)
   known-set x [] v all h = all
   known-set x (e ∷ es) v all h = (elim (is_named x e.0) as (λ b. AreKnownIn names (cond b ((e.0, v) ∷ es) (e ∷ set_value (is_named x) es v))) [
     | true ↦ known-first (e.0, v) es h (known-rest e es all)
     | false ↦ known-first e (set_value (is_named x) es v) (all 0 e (omega arith)) (known-set x es v (known-rest e es all) h)
   ])
 
-  pub known-insert : (k : Vec ℕ Global) (es : Entries) (v : Value) → AreKnownIn names es → AllKnown (slice_get names) v → AreKnownIn names (insert_entry (λ a b. bytes_eq a.items b.items) es k v)
+  pub known-insert : (k : Vec ℕ Global) (es : Entries) (v : Value) → AreKnownIn names es → AllKnown (named names) v → AreKnownIn names (insert_entry (λ a b. bytes_eq a.items b.items) es k v)
   known-insert k [] v all h = known-first (k, v) [] h all
   known-insert k (e ∷ es) v all h = (elim (bytes_eq k.items e.0.items) as (λ b. AreKnownIn names (cond b ((e.0, v) ∷ es) (e ∷ insert_entry (λ a b. bytes_eq a.items b.items) es k v))) [
     | true ↦ known-first (e.0, v) es h (known-rest e es all)
@@ -64,39 +65,39 @@ module _ (names : List (List ℕ)) where
     | false ↦ λ t g. rw t (lookup-none x es (rw t at g))
   ]) refl h
 
-  pub lookup-some : (x : List ℕ) (es : Entries) (v : Value) → Some v ≡ lookup (is_named x) es → lookup (bytes_eq x) (values_of names es) ≡ Some (plain (slice_get names) v)
+  pub lookup-some : (x : List ℕ) (es : Entries) (v : Value) → Some v ≡ lookup (is_named x) es → lookup (bytes_eq x) (values_of names es) ≡ Some (plain (named names) v)
   lookup-some x [] v h = absurd (cc)
-  lookup-some x (e ∷ es) v h = (elim (bytes_eq x e.0.items) as (λ b. bytes_eq x e.0.items ≡ b → Some v ≡ lookup (is_named x) (e ∷ es) → lookup (bytes_eq x) (values_of names (e ∷ es)) ≡ Some (plain (slice_get names) v)) [
-    | true ↦ λ t g. let same : v ≡ e.1 = cc (rw t at g) in rw t (ap (λ w. Some (plain (slice_get names) w)) (sym same))
+  lookup-some x (e ∷ es) v h = (elim (bytes_eq x e.0.items) as (λ b. bytes_eq x e.0.items ≡ b → Some v ≡ lookup (is_named x) (e ∷ es) → lookup (bytes_eq x) (values_of names (e ∷ es)) ≡ Some (plain (named names) v)) [
+    | true ↦ λ t g. let same : v ≡ e.1 = cc (rw t at g) in rw t (ap (λ w. Some (plain (named names) w)) (sym same))
     | false ↦ λ t g. rw t (lookup-some x es v (rw t at g))
   ]) refl h
 
-  pub lookup-known : (x : List ℕ) (es : Entries) (v : Value) → Some v ≡ lookup (is_named x) es → AreKnownIn names es → AllKnown (slice_get names) v
+  pub lookup-known : (x : List ℕ) (es : Entries) (v : Value) → Some v ≡ lookup (is_named x) es → AreKnownIn names es → AllKnown (named names) v
   lookup-known x [] v h all = absurd (cc)
-  lookup-known x (e ∷ es) v h all = (elim (bytes_eq x e.0.items) as (λ b. bytes_eq x e.0.items ≡ b → Some v ≡ lookup (is_named x) (e ∷ es) → AllKnown (slice_get names) v) [
-    | true ↦ λ t g. let same : v ≡ e.1 = cc (rw t at g) in subst (AllKnown (slice_get names)) (sym same) (all 0 e (omega arith))
+  lookup-known x (e ∷ es) v h all = (elim (bytes_eq x e.0.items) as (λ b. bytes_eq x e.0.items ≡ b → Some v ≡ lookup (is_named x) (e ∷ es) → AllKnown (named names) v) [
+    | true ↦ λ t g. let same : v ≡ e.1 = cc (rw t at g) in subst (AllKnown (named names)) (sym same) (all 0 e (omega arith))
     | false ↦ λ t g. lookup-known x es v (rw t at g) (known-rest e es all)
   ]) refl h
 
   pub found_as : (x : List ℕ) (es : Entries) (o : Option (Bor Value)) → option_copied o ≡ lookup (is_named x) es
-      → MatchOption o (lookup (bytes_eq x) (values_of names es) ≡ None) (λ v. lookup (bytes_eq x) (values_of names es) ≡ Some (plain (slice_get names) v.now))
+      → MatchOption o (lookup (bytes_eq x) (values_of names es) ≡ None) (λ v. lookup (bytes_eq x) (values_of names es) ≡ Some (plain (named names) v.now))
   found_as x es None h = lookup-none x es h
   found_as x es (Some v) h = lookup-some x es v.now h
 
-  pub known_as : (x : List ℕ) (es : Entries) (o : Option (Bor Value)) → option_copied o ≡ lookup (is_named x) es → AreKnownIn names es → MatchOption o ⊤ (λ v. AllKnown (slice_get names) v.now)
+  pub known_as : (x : List ℕ) (es : Entries) (o : Option (Bor Value)) → option_copied o ≡ lookup (is_named x) es → AreKnownIn names es → MatchOption o ⊤ (λ v. AllKnown (named names) v.now)
   known_as x es None h all = tt
   known_as x es (Some v) h all = lookup-known x es v.now h all
 
 -- the variables over a later store
-pub known_in_later : (a b : List (List ℕ)) (es : Entries) → Keeps a b → AreKnownIn a es → AreKnownIn b es
+pub known_in_later : (a b : Known) (es : Entries) → Keeps a b → AreKnownIn a es → AreKnownIn b es
 known_in_later a b es kept known = λ k d within. known_later a b (get_or es k d).1 kept (known k d within)
 
-pub values_later : (a b : List (List ℕ)) (es : Entries) → Keeps a b → AreKnownIn a es → values_of b es ≡ values_of a es
+pub values_later : (a b : Known) (es : Entries) → Keeps a b → AreKnownIn a es → values_of b es ≡ values_of a es
 values_later a b [] kept is_known = refl
 values_later a b (e ∷ es) kept is_known =
     ap₂ (λ (d : Plain) rest. (e.0.items, d) ∷ rest) (plain_later a b e.1 kept (is_known 0 e (omega arith))) (values_later a b es kept (λ k d within. is_known (suc k) d (omega (arith, within))))
 
-pub known-after : {E : Type 0} (names : List (List ℕ)) (r : Result (Unit {0}) E) (es fs : Entries) (v : Value) → OnOk r ((a : List (List ℕ)) → AreKnownIn a es → AllKnown (slice_get a) v → AreKnownIn a fs) → OnErr r (fs ≡ es)
-    → AreKnownIn names es → AllKnown (slice_get names) v → AreKnownIn names fs
+pub known-after : {E : Type 0} (names : Known) (r : Result (Unit {0}) E) (es fs : Entries) (v : Value) → OnOk r ((a : Known) → AreKnownIn a es → AllKnown (named a) v → AreKnownIn a fs) → OnErr r (fs ≡ es)
+    → AreKnownIn names es → AllKnown (named names) v → AreKnownIn names fs
 known-after names (Ok u) es fs v ok err all h = ok names all h
 known-after names (Err e) es fs v ok err all h = subst (AreKnownIn names) (sym err) all

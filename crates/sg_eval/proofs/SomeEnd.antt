@@ -1,5 +1,6 @@
 -- A process that asks only about lawful values, as long as it is given such, runs to an end.
 use Rattle.std.proofs.Common.{◌≡◌, ℕ, zero, suc, ℤ, pos, negsuc, Bool, true, false, List, [], ◌∷◌, ◌++◌, Option, Some, None, Result, Ok, Err, cond, refl}
+use Rattle.sg_value.specs.Plain.{Things}
 use Rattle.std.specs.Prelude.{◌+ℤ◌, ◌-ℤ◌, IfSome, IfOk, ⊤}
 use Rattle.std.specs.Map.{lookup}
 use Rattle.std.specs.Str.{bytes_eq}
@@ -21,7 +22,7 @@ integers_lawful : (z : ℤ) (n : ℕ) → AreLawful (integers_from z n)
 integers_lawful z zero = tt
 integers_lawful z (suc n) = (tt, integers_lawful (z +ℤ pos 1) n)
 
-entry_lawful : (ds : Items (List ℕ)) (n : ℕ) → AreLawful ds → IfSome (entry_at ds n) IsLawful
+entry_lawful : (ds : Items Things) (n : ℕ) → AreLawful ds → IfSome (entry_at ds n) IsLawful
 entry_lawful none n h = tt
 entry_lawful (item d ds) zero h = tt
 entry_lawful (item d ds) (suc zero) h = h.0
@@ -31,7 +32,7 @@ found_lawful : (o : Option Plain) → IfSome o IsLawful → IsLawfulReply (found
 found_lawful None h = tt
 found_lawful (Some d) h = h
 
-item_lawful : (o : Option (Items (List ℕ))) (i : Option ℤ) → IfSome o AreLawful → IsLawfulReply (item_of o i)
+item_lawful : (o : Option (Items Things)) (i : Option ℤ) → IfSome o AreLawful → IsLawfulReply (item_of o i)
 item_lawful None i h = tt
 item_lawful (Some ds) None h = tt
 item_lawful (Some ds) (Some (pos n)) h = found_lawful (entry_at ds n) (entry_lawful ds n h)

@@ -1,8 +1,9 @@
 -- Lists of integers in a row.
 use Rattle.std.proofs.Common.{◌≡◌, ◌<◌, ◌≤◌, ◌+◌, ◌-◌, ◌^◌, ℕ, zero, suc, ℤ, pos, ◌+ℤ◌, ◌-ℤ◌, min, max, List, [], ◌∷◌, ◌++◌, Option, Some, None, Ok, Err, Vec, Global, slice_get, inl, inr, refl, ap, sym, ◌∙◌, subst, arith}
+use Rattle.sg_value.specs.Known.{named}
 use Rattle.std.proofs.Math.IntN.{+ℤ_assoc, +ℤ_idr}
-use Rattle.sg_value.specs.Data.{int, list, none, item, items_map, data_map, depth_of_all, weight_of_all, EachSemigroup, EachSemigroupOfAll}
-use Rattle.sg_value.specs.Plain.{AllKnown, IsKnown, contents, contents_of_all, plain, generators_at}
+use Rattle.sg_value.specs.Data.{int, list, none, item, items_map, data_map, depth_of_all, weight_of_all, EachThing, EachThingOfAll, Kind}
+use Rattle.sg_value.specs.Plain.{AllKnown, IsKnown, contents, contents_of_all, plain, thing_at}
 use Rattle.sg_value.specs.declared.value.Value.{Value}
 use Rattle.sg_value.specs.declared.value.Value.TheVariants as value
 use Rattle.sg_rows.specs.Order.{Reply, fits, IsReply, Delivers}
@@ -21,7 +22,7 @@ use Rattle.sg_eval.proofs.Evaluating.{keeps_all}
 use Rattle.sg_eval.proofs.Measured.{contents-List}
 
 -- one integer more
-pub integers_in-more : {H : Type 0} (z : ℤ) (n : ℕ) → join (integers_in {H = H} z n) (item (int (z +ℤ pos n)) none) ≡ integers_in z (suc n)
+pub integers_in-more : {H : Kind → Type 0} (z : ℤ) (n : ℕ) → join (integers_in {H = H} z n) (item (int (z +ℤ pos n)) none) ≡ integers_in z (suc n)
 integers_in-more z zero = ap (λ y. item (int y) none) (+ℤ_idr z)
 integers_in-more z (suc n) =
     let next : 1 + n ≡ suc n = omega arith in
@@ -37,11 +38,11 @@ integers_pushed vs ws v z i is seen so_far =
     let next : suc i ≡ i + 1 = omega arith in
     ap contents_of_all is ∙ (contents-more vs v ∙ (ap (λ d. join (contents_of_all vs) (item d none)) seen ∙ (ap (λ ds. join ds (item (int (z +ℤ pos i)) none)) so_far ∙ (integers_in-more z i ∙ ap (integers_in z) next))))
 
-integers_map : {H : Type 0} (f : H → List ℕ) (z : ℤ) (n : ℕ) → items_map f (integers_in z n) ≡ integers_from z n
+integers_map : {H : Kind → Type 0} (f : H → List ℕ) (z : ℤ) (n : ℕ) → items_map f (integers_in z n) ≡ integers_from z n
 integers_map f z zero = refl
 integers_map f z (suc n) = ap (item (int z)) (integers_map f (z +ℤ pos 1) n)
 
-integers_known : {H : Type 0} (P : H → Type 0) (z : ℤ) (n : ℕ) → EachSemigroupOfAll P (integers_in z n)
+integers_known : {H : Kind → Type 0} (P : (k : Kind) → H k → Type 0) (z : ℤ) (n : ℕ) → EachThingOfAll P (integers_in z n)
 integers_known P z zero = tt
 integers_known P z (suc n) = (tt, integers_known P (z +ℤ pos 1) n)
 
@@ -70,10 +71,10 @@ module _ (x : ℤ) (k : ℕ) where
       spanned_as (Ok (list (integers_from x k))) (inr ((λ f. f tt), inr ((λ deep. absurd (omega (arith, e, deep))), inr ((λ heavy. absurd (omega (arith, w, light, heavy))), refl))))
 
 integer_seen : (names : ℕ → Option (List ℕ)) (v : Value) (o : Option ℤ) → as_integer (contents v) ≡ o → as_integer (plain names v) ≡ o
-integer_seen names v o is = as_integer-plain (generators_at names) (contents v) ∙ is
+integer_seen names v o is = as_integer-plain (thing_at names) (contents v) ∙ is
 
 refused_as : (a b : Value) (s : State) (e : Fault) → ((names : ℕ → Option (List ℕ)) → IsReply (span_of (plain names a) (plain names b)) (Err e)) → Evaluates plain AllKnown (Err (Script e)) s s (λ names. ask (spans (plain names a) (plain names b)))
-refused_as a b s e h = record { keeps = keeps_all s.names; variables = refl; parameters = tt; is_known = tt; gives = λ final later. (Err e, h (slice_get final), (refl, refl, refl)) }
+refused_as a b s e h = record { keeps = keeps_all s.names; variables = refl; parameters = tt; is_known = tt; gives = λ final later. (Err e, h (named final), (refl, refl, refl)) }
 
 pub span_low : (a b : Value) (s : State) → as_integer (contents a) ≡ None → Evaluates plain AllKnown (Err (Script WrongType)) s s (λ names. ask (spans (plain names a) (plain names b)))
 span_low a b s is = refused_as a b s WrongType (λ names.
@@ -103,10 +104,10 @@ module _ (a b : Value) (s : State) (x y : ℤ) (is_a : as_integer (contents a) �
         keeps = keeps_all s.names;
         variables = refl;
         parameters = refl;
-        is_known = subst (EachSemigroup (IsKnown (slice_get s.names))) (sym seen) (integers_known (IsKnown (slice_get s.names)) x k);
+        is_known = subst (EachThing (IsKnown (named s.names))) (sym seen) (integers_known (IsKnown (named s.names)) x k);
         gives = λ final later. (
           Ok (list (integers_from x k)),
-          span_seen a b x y (slice_get final) (Ok (list (integers_from x k))) is_a is_b (spanned_fine x k (omega (arith, same, light))),
-          (ap Ok (ap (data_map (generators_at (slice_get final))) seen ∙ ap list (integers_map (generators_at (slice_get final)) x k)), refl, refl),
+          span_seen a b x y (named final) (Ok (list (integers_from x k))) is_a is_b (spanned_fine x k (omega (arith, same, light))),
+          (ap Ok (ap (data_map (thing_at (named final))) seen ∙ ap list (integers_map (thing_at (named final)) x k)), refl, refl),
         );
       }

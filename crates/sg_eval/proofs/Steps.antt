@@ -2,8 +2,8 @@
 use Rattle.std.proofs.Common.{◌≡◌, ◌<◌, ◌+◌, ℕ, List, [], ◌∷◌, ◌++◌, length, get_or, drop, Bool, true, false, Some, None, Result, Ok, Err, IsErrAnd, Vec, Global, refl, ap, sym, ◌∙◌, subst}
 use Rattle.std.proofs.Math.Path.{fun_ext}
 use Rattle.std.proofs.lemmas.List.{drop_more}
-use Rattle.sg_value.specs.Data.{Data, Items, none, item, truth, int, text, list, fail, semigroup}
-use Rattle.sg_value.specs.Plain.{Named, AllKnown, AllKnownIn, plain, plain_of_all}
+use Rattle.sg_value.specs.Data.{Data, Items, none, item, truth, int, text, list, fail, semigroup, ideal, Kind}
+use Rattle.sg_value.specs.Plain.{Named, AllKnown, AllKnownIn, plain, plain_of_all, Things}
 use Rattle.sg_value.specs.declared.value.Value.{Value}
 use Rattle.sg_rows.specs.Order.{Plain}
 use Rattle.sg_rows.specs.Words.{join}
@@ -50,7 +50,7 @@ module _ (ps : Vars) (s s1 : State) (t : Tree) (same : s.parameters ≡ ps) wher
       (evaluates_exit plain AllKnown plain AllKnown r e s s1 (λ names. placed ps (plain names v) t) (λ names d. eval_places ps d ts) failed
       (subst (λ qs. Evaluates plain AllKnown (Err e) s s1 (λ names. placed qs (plain names v) t)) same h))
 
-pub join-one : {H : Type 0} (ds : Items H) (d : Data H) (es : Items H) → join (join ds (item d none)) es ≡ join ds (item d es)
+pub join-one : {H : Kind → Type 0} (ds : Items H) (d : Data H) (es : Items H) → join (join ds (item d none)) es ≡ join ds (item d es)
 join-one none d es = refl
 join-one (item c ds) d es = ap (item c) (join-one ds d es)
 
@@ -59,10 +59,10 @@ plain_of_all-more names [] v = refl
 plain_of_all-more names (u ∷ vs) v = ap (item (plain names u)) (plain_of_all-more names vs v)
 
 -- the values so far, before those of the expressions that are left
-abbrev pub after_front : Vars → Trees → Items (List ℕ) → Process (Items (List ℕ))
+abbrev pub after_front : Vars → Trees → Items Things → Process (Items Things)
 after_front ps ts ds = eval_all ps ts >>= (λ es. gives (join ds es))
 
-front_step : (ps : Vars) (t : Tree) (ts : Trees) (ds : Items (List ℕ)) → eval ps t >>= (λ d. after_front ps ts (join ds (item d none))) ≡ after_front ps (tree t ts) ds
+front_step : (ps : Vars) (t : Tree) (ts : Trees) (ds : Items Things) → eval ps t >>= (λ d. after_front ps ts (join ds (item d none))) ≡ after_front ps (tree t ts) ds
 front_step ps t ts ds =
     ap (λ k. eval ps t >>= k) (fun_ext (λ d. ap (λ k. eval_all ps ts >>= k) (fun_ext (λ es. ap gives (join-one ds d es))) ∙ sym (assoc (eval_all ps ts) (λ es. gives (item d es)) (λ es. gives (join ds es)))))
     ∙ sym (assoc (eval ps t) (λ d. eval_all ps ts >>= (λ es. gives (item d es))) (λ es. gives (join ds es)))
@@ -102,6 +102,7 @@ operand_truth ps t ls = assoc (eval ps t) (λ e. decided e (λ b. gives e)) (λ 
     truth_after (list ds) = refl
     truth_after fail = refl
     truth_after (semigroup h) = refl
+    truth_after (ideal h) = refl
 
 -- a chain, link by link
 pub link_step : (ps : Vars) (op : Op) (t : Tree) (ls : Links) (d : Plain) → ends_chain op d >>= unless_ended ps op t ls d ≡ eval_links ps d (link op t ls)
@@ -112,6 +113,7 @@ link_step ps Or t ls (text bs) = refl
 link_step ps Or t ls (list ds) = refl
 link_step ps Or t ls fail = refl
 link_step ps Or t ls (semigroup h) = refl
+link_step ps Or t ls (ideal h) = refl
 link_step ps And t ls (truth true) = operand_truth ps t ls
 link_step ps And t ls (truth false) = refl
 link_step ps And t ls (int z) = refl
@@ -119,6 +121,7 @@ link_step ps And t ls (text bs) = refl
 link_step ps And t ls (list ds) = refl
 link_step ps And t ls fail = refl
 link_step ps And t ls (semigroup h) = refl
+link_step ps And t ls (ideal h) = refl
 link_step ps Plus t ls d = assoc (eval ps t) (λ e. ask (combines operator.Plus d e)) (λ s. eval_links ps s ls)
 link_step ps Less t ls d = assoc (eval ps t) (λ e. ask (combines operator.Less d e)) (λ s. eval_links ps s ls)
 link_step ps Times t ls d = assoc (eval ps t) (λ e. ask (combines operator.Times d e)) (λ s. eval_links ps s ls)
@@ -156,7 +159,7 @@ right_unit (writes bs p) = ap (writes bs) (right_unit p)
 pub front_none : (ps : Vars) (ts : Trees) (names : Named) (vs : List Value) → vs ≡ [] → after_front ps ts (plain_of_all names vs) ≡ eval_all ps ts
 front_none ps ts names vs is = ap (λ ws. after_front ps ts (plain_of_all names ws)) is ∙ right_unit (eval_all ps ts)
 
-pub join-none : {H : Type 0} (ds : Items H) → join ds none ≡ ds
+pub join-none : {H : Kind → Type 0} (ds : Items H) → join ds none ≡ ds
 join-none none = refl
 join-none (item d ds) = ap (item d) (join-none ds)
 

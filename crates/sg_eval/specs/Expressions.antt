@@ -1,9 +1,11 @@
 -- What expressions do.
 use Rattle.std.specs.Prelude.{ℕ, zero, suc, Bool, true, false, not, List, [], ◌∷◌, codes, pos, Option, Some, None, Ok, Err, if◌then◌else◌}
+use Rattle.sg_value.specs.Plain.{Things}
+use Rattle.sg_value.specs.Known.{named}
 use Rattle.std.specs.Map.{lookup}
 use Rattle.std.specs.Str.{bytes_eq}
 use Rattle.std.specs.Option.{option_map}
-use Rattle.sg_value.specs.Data.{int, truth as a_truth, text, list, fail, semigroup, Items, none, item}
+use Rattle.sg_value.specs.Data.{int, truth as a_truth, text, list, fail, semigroup, ideal, Items, none, item}
 use Rattle.sg_tree.specs.Tree.{Tree, number, quoted, truth, failing, variable, call, display, span, item as item_tree, minus, negation, chain, compare, Trees, no_trees, tree, plain, arrow, Arguments, no_arguments, argument, Links, no_links, link}
 use Rattle.sg_tree.specs.declared.expr.Op.TheVariants.{Or, And, Plus, Less, Times, Mod}
 use Rattle.sg_tree.specs.declared.expr.Rel.{Rel}
@@ -46,9 +48,10 @@ decided (text bs) f = refuses WrongType
 decided (list ds) f = refuses WrongType
 decided fail f = refuses WrongType
 decided (semigroup G) f = refuses WrongType
+decided (ideal G) f = refuses WrongType
 
 -- the entries of a list, or it is refused
-abbrev pub listed : {A : Type 0} → Option (Items (List ℕ)) → (Items (List ℕ) → Process A) → Process A
+abbrev pub listed : {A : Type 0} → Option (Items Things) → (Items Things → Process A) → Process A
 listed None f = refuses WrongType
 listed (Some ds) f = f ds
 
@@ -77,7 +80,7 @@ unless (Some e) p = refuses e
 unless None p = p
 
 -- the arguments of a command, none of which may be an arrow
-abbrev pub plain_alone : Option (Items (List ℕ)) → (Items (List ℕ) → Process Plain) → Process Plain
+abbrev pub plain_alone : Option (Items Things) → (Items Things → Process Plain) → Process Plain
 plain_alone None f = refuses WrongType
 plain_alone (Some ds) f = f ds
 
@@ -99,25 +102,25 @@ abbrev pub folding_named : List ℕ → Option Folding
 folding_named name = lookup (bytes_eq name) foldings
 
 -- a call of a command, by what its arguments give; a command with an arrow is answered here
-abbrev pub called : Option Folding → List ℕ → ℕ → Process (Option (Items (List ℕ))) → (Folding → Process Plain) → Process Plain
+abbrev pub called : Option Folding → List ℕ → ℕ → Process (Option (Items Things)) → (Folding → Process Plain) → Process Plain
 called (Some f) name count given fold = fold f
 called None name count given fold = unless (checked name count) (given >>= (λ values. plain_alone values (λ ds. ask (calls name ds))))
 
 -- over the entries in their order, with what an arrow gives of each
-abbrev pub values_over : (Plain → Process Plain) → Items (List ℕ) → Process (Items (List ℕ))
+abbrev pub values_over : (Plain → Process Plain) → Items Things → Process (Items Things)
 values_over f none = gives none
 values_over f (item d ds) = f d >>= (λ v. values_over f ds >>= (λ vs. gives (item v vs)))
 
-abbrev pub true_over : (Plain → Process Plain) → Items (List ℕ) → Process (Items (List ℕ))
+abbrev pub true_over : (Plain → Process Plain) → Items Things → Process (Items Things)
 true_over f none = gives none
 true_over f (item d ds) = f d >>= (λ v. decided v (λ b. true_over f ds >>= (λ es. gives (if b then item d es else es))))
 
 -- whether it is b for each; it stops at the first for which it is not
-abbrev pub is_each : Bool → (Plain → Process Plain) → Items (List ℕ) → Process Bool
+abbrev pub is_each : Bool → (Plain → Process Plain) → Items Things → Process Bool
 is_each b f none = gives b
 is_each b f (item d ds) = f d >>= (λ v. decided v (λ c. if (if b then c else not c) then is_each b f ds else gives (not b)))
 
-abbrev pub folded : Folding → (Plain → Process Plain) → Items (List ℕ) → Process Plain
+abbrev pub folded : Folding → (Plain → Process Plain) → Items Things → Process Plain
 folded EachValue f ds = values_over f ds >>= (λ vs. ask (lists vs))
 folded ThoseTrue f ds = true_over f ds >>= (λ es. ask (lists es))
 folded AllTrue f ds = is_each true f ds >>= (λ b. gives (a_truth b))
@@ -140,7 +143,7 @@ abbrev mutual
   eval env (chain t ls) = eval env t >>= (λ d. eval_links env d ls)
   eval env (compare r left right) = eval env left >>= (λ a. eval env right >>= (λ b. ask (combines (relation r) a b)))
 
-  pub eval_all : Vars → Trees → Process (Items (List ℕ))
+  pub eval_all : Vars → Trees → Process (Items Things)
   eval_all env no_trees = gives none
   eval_all env (tree t ts) = eval env t >>= (λ d. eval_all env ts >>= (λ ds. gives (item d ds)))
 
@@ -161,7 +164,7 @@ abbrev mutual
   eval_links env d (link Mod t ls) = eval env t >>= (λ e. ask (combines operator.Mod d e) >>= (λ s. eval_links env s ls))
 
   -- the values of arguments, or none where there is an arrow among them
-  pub eval_given : Vars → Arguments → Process (Option (Items (List ℕ)))
+  pub eval_given : Vars → Arguments → Process (Option (Items Things))
   eval_given env no_arguments = gives (Some none)
   eval_given env (argument (plain t) others) = eval env t >>= (λ d. eval_given env others >>= (λ ds. gives (option_map (item d) ds)))
   eval_given env (argument (arrow x t) others) = eval_given env others >>= (λ ds. gives None)

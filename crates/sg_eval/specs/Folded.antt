@@ -1,6 +1,7 @@
 -- A command with an arrow, entry by entry.
 use Rattle.std.specs.Prelude.{Bool, true, false, not, pos, Option, Some, None, List, ◌∷◌, ℕ, if◌then◌else◌}
-use Rattle.sg_value.specs.Data.{Data, int, truth, text, list, fail, semigroup, Items, none, item}
+use Rattle.sg_value.specs.Plain.{Things}
+use Rattle.sg_value.specs.Data.{Data, int, truth, text, list, fail, semigroup, ideal, Items, none, item, Kind}
 use Rattle.sg_tree.specs.Tree.{Argument, plain as plain_argument, arrow}
 use Rattle.sg_rows.specs.declared.fault.Fault.TheVariants.{WrongType}
 use Rattle.sg_rows.specs.Kinds.{as_list}
@@ -14,13 +15,14 @@ use Rattle.sg_eval.specs.Queries.{lists}
 use Rattle.sg_eval.specs.Vars.{Vars}
 
 -- whether the value is the truth value true
-abbrev pub is_true : {H : Type 0} → Data H → Bool
+abbrev pub is_true : {H : Kind → Type 0} → Data H → Bool
 is_true (truth b) = b
 is_true (int z) = false
 is_true (text bs) = false
 is_true (list ds) = false
 is_true fail = false
 is_true (semigroup h) = false
+is_true (ideal h) = false
 
 -- whether the entries after one, of which the arrow gave this value, are looked at
 abbrev pub goes_on : Folding → Plain → Process Bool
@@ -31,7 +33,7 @@ goes_on AnyTrue v = decided v (λ b. gives (not b))
 goes_on CountTrue v = decided v (λ b. gives true)
 
 -- what is gathered at an entry, of which the arrow gave this value
-abbrev pub gathered_at : {H : Type 0} → Folding → Data H → Data H → Items H
+abbrev pub gathered_at : {H : Kind → Type 0} → Folding → Data H → Data H → Items H
 gathered_at EachValue d v = item v none
 gathered_at ThoseTrue d v = if is_true v then item d none else none
 gathered_at AllTrue d v = none
@@ -39,7 +41,7 @@ gathered_at AnyTrue d v = none
 gathered_at CountTrue d v = if is_true v then item v none else none
 
 -- the answer, once all entries were looked at or not
-abbrev pub finished : Folding → Bool → Items (List ℕ) → Process Plain
+abbrev pub finished : Folding → Bool → Items Things → Process Plain
 finished EachValue all ds = ask (lists ds)
 finished ThoseTrue all ds = ask (lists ds)
 finished AllTrue all ds = gives (truth all)
@@ -47,12 +49,12 @@ finished AnyTrue all ds = gives (truth (not all))
 finished CountTrue all ds = gives (int (pos (entry_count ds)))
 
 -- the entries that are left, after what was gathered
-abbrev pub fold_on : Folding → (Plain → Process Plain) → Items (List ℕ) → Items (List ℕ) → Process Plain
+abbrev pub fold_on : Folding → (Plain → Process Plain) → Items Things → Items Things → Process Plain
 fold_on fold f ds none = finished fold true ds
 fold_on fold f ds (item e es) = f e >>= (λ v. goes_on fold v >>= (λ b. if b then fold_on fold f (join ds (gathered_at fold e v)) es else finished fold false ds))
 
 -- the entries of a value that may be missing, or it is refused
-abbrev pub listed_if : {A : Type 0} → Option Plain → (Items (List ℕ) → Process A) → Process A
+abbrev pub listed_if : {A : Type 0} → Option Plain → (Items Things → Process A) → Process A
 listed_if None f = refuses WrongType
 listed_if (Some d) f = listed (as_list d) f
 

@@ -2,7 +2,7 @@
 use Rattle.std.specs.Prelude.{◌≡◌, ℕ, List, [], ◌∷◌, ◌++◌, Option, Some, None, Vec, ⊤}
 use Rattle.std.specs.Global.{Global}
 use Rattle.sg_value.specs.Data.{Items}
-use Rattle.sg_value.specs.Plain.{Named, AllKnown, plain}
+use Rattle.sg_value.specs.Plain.{Named, AllKnown, plain, Things}
 use Rattle.sg_value.specs.declared.value.Value.{Value}
 use Rattle.sg_tree.specs.Tree.{Argument, plain as plain_argument, arrow}
 use Rattle.sg_rows.specs.Order.{Plain}
@@ -19,7 +19,7 @@ abbrev pub known_if : Named → Option Value → Type 0
 known_if names None = ⊤
 known_if names (Some v) = AllKnown names v
 
-abbrev pub plain_where : Named → Option (Vec Value Global) → Option (Items (List ℕ))
+abbrev pub plain_where : Named → Option (Vec Value Global) → Option (Items Things)
 plain_where names None = None
 plain_where names (Some vs) = Some (plain_in names vs)
 

@@ -1,10 +1,11 @@
 -- What calls gave and did.
 use Rattle.std.specs.Prelude.{◌≡◌, ℕ, List, [], Result, Ok, Err, IfOk, OnOk, slice_get, Vec, ⊤}
+use Rattle.sg_value.specs.Known.{Known, named}
 use Rattle.std.specs.Borrow.{Bor}
 use Rattle.std.specs.Global.{Global}
-use Rattle.sg_value.specs.Data.{Items}
+use Rattle.sg_value.specs.Data.{Items, semigroups}
 use Rattle.sg_value.specs.declared.value.Value.{Value}
-use Rattle.sg_value.specs.Plain.{Named, AllKnown, AllKnownIn, plain, plain_of_all}
+use Rattle.sg_value.specs.Plain.{Named, AllKnown, AllKnownIn, plain, plain_of_all, Things}
 use Rattle.sg_store.specs.Interned.{Keeps}
 use Rattle.sg_rows.specs.declared.fault.CallFault.{CallFault}
 use Rattle.sg_rows.specs.declared.fault.CallFault.TheVariants.{Script, Memory}
@@ -14,7 +15,7 @@ use Rattle.sg_eval.specs.State.{State}
 use Rattle.sg_eval.specs.Vars.{Vars}
 
 -- values by their plain values
-abbrev pub plain_in : Named → Vec Value Global → Items (List ℕ)
+abbrev pub plain_in : Named → Vec Value Global → Items Things
 plain_in names vs = plain_of_all names vs.items
 
 abbrev pub known_in : Named → Vec Value Global → Type 0
@@ -39,8 +40,8 @@ pub record Evaluates {X A : Type 0} (view : Named → X → A) (known : Named �
   pub keeps : Keeps old.names new.names
   pub variables : new.variables ≡ old.variables
   pub parameters : OnOk r (new.parameters ≡ old.parameters)
-  pub is_known : IfOk r (known (slice_get new.names))
-  pub gives : (final : List (List ℕ)) → Keeps new.names final → Gives (view (slice_get final)) r (p (slice_get final)) old.variables
+  pub is_known : IfOk r (known (named new.names))
+  pub gives : (final : Known) → Keeps new.names final → Gives (view (named final)) r (p (named final)) old.variables
 
 -- a call found the value of a name, over this machine, or gave what the process gives
 abbrev pub Finds : Result (Unit {0}) CallFault → State → (Named → Process Plain) → Type 0

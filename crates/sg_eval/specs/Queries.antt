@@ -1,5 +1,6 @@
 -- What a statement asks for while it runs, and what is answered.
 use Rattle.std.specs.Prelude.{◌≡◌, ℕ, zero, suc, ℤ, pos, negsuc, ◌-ℤ◌, ◌+ℤ◌, List, Option, Some, None, Ok, Err}
+use Rattle.sg_value.specs.Plain.{Things}
 use Rattle.sg_value.specs.Data.{int, list, Items, none, item}
 use Rattle.sg_rows.specs.Order.{Plain, Reply, Case, fits, IsReply}
 use Rattle.sg_rows.specs.Kinds.{given, as_integer, as_list, answers}
@@ -10,20 +11,20 @@ use Rattle.sg_rows.specs.declared.fault.Fault.TheVariants.{WrongType, IndexOut}
 
 pub data Query : Type 0 where
   -- a command of arguments
-  calls : List ℕ → Items (List ℕ) → Query
+  calls : List ℕ → Items Things → Query
   -- an operator of two operands
   combines : Operator → Plain → Plain → Query
   -- the minus sign
   negates : Plain → Query
   -- the list of these entries
-  lists : Items (List ℕ) → Query
+  lists : Items Things → Query
   -- the list of the integers from the first to the second
   spans : Plain → Plain → Query
   -- an entry of a list by its place
   indexes : Plain → Plain → Query
 
 -- so many integers from the first on
-abbrev pub integers_from : ℤ → ℕ → Items (List ℕ)
+abbrev pub integers_from : ℤ → ℕ → Items Things
 integers_from z zero = none
 integers_from z (suc n) = item (int z) (integers_from (z +ℤ pos 1) n)
 
@@ -36,13 +37,13 @@ abbrev pub span_of : Plain → Plain → Case
 span_of a b = given (as_integer a) (λ x. given (as_integer b) (λ y. fits (answers (λ d. d ≡ list (integers_from x (span_count (y -ℤ x)))))))
 
 -- the entry at a place, counted from 1 on
-abbrev pub entry_at : Items (List ℕ) → ℕ → Option Plain
+abbrev pub entry_at : Items Things → ℕ → Option Plain
 entry_at none n = None
 entry_at (item d ds) zero = None
 entry_at (item d ds) (suc zero) = Some d
 entry_at (item d ds) (suc (suc n)) = entry_at ds (suc n)
 
-abbrev pub entry_at_integer : Items (List ℕ) → ℤ → Option Plain
+abbrev pub entry_at_integer : Items Things → ℤ → Option Plain
 entry_at_integer ds (pos n) = entry_at ds n
 entry_at_integer ds (negsuc n) = None
 
@@ -51,7 +52,7 @@ found_or_out (Some d) = Ok d
 found_or_out None = Err IndexOut
 
 -- the entry of a list at an integer, or that there is none
-abbrev pub item_of : Option (Items (List ℕ)) → Option ℤ → Reply
+abbrev pub item_of : Option (Items Things) → Option ℤ → Reply
 item_of None i = Err WrongType
 item_of (Some ds) None = Err WrongType
 item_of (Some ds) (Some z) = found_or_out (entry_at_integer ds z)

@@ -1,5 +1,6 @@
 -- What statements do.
 use Rattle.std.specs.Prelude.{ℕ, Bool, true, false, List, [], ◌++◌, codes, Option, Some, None, if◌then◌else◌}
+use Rattle.sg_value.specs.Plain.{Things}
 use Rattle.std.specs.Str.{bytes_eq}
 use Rattle.sg_value.specs.Data.{Items, none, item}
 use Rattle.sg_value.specs.Text.{text_of}
@@ -16,12 +17,12 @@ pub data Going : Type 0 where
   ended : Going
 
 -- the texts of values, one after the other
-abbrev pub texts_of : Items (List ℕ) → List ℕ
+abbrev pub texts_of : Items Things → List ℕ
 texts_of none = []
 texts_of (item d ds) = text_of d ++ texts_of ds
 
 -- once all arguments are values, their texts are written
-abbrev pub printed : Option (Items (List ℕ)) → Process (Unit {0})
+abbrev pub printed : Option (Items Things) → Process (Unit {0})
 printed None = refuses WrongType
 printed (Some ds) = writes (texts_of ds) (gives tt)
 
@@ -47,7 +48,7 @@ done (chain t ls) = eval [] (chain t ls) >>= (λ d. gives tt)
 done (compare r left right) = eval [] (compare r left right) >>= (λ d. gives tt)
 
 -- something for each entry in its order
-abbrev pub over : (Plain → Process (Unit {0})) → Items (List ℕ) → Process (Unit {0})
+abbrev pub over : (Plain → Process (Unit {0})) → Items Things → Process (Unit {0})
 over f none = gives tt
 over f (item d ds) = f d >>= (λ u. over f ds)
 

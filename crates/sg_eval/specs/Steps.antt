@@ -1,8 +1,9 @@
 -- What a step of the machine did.
 use Rattle.std.specs.Prelude.{◌≡◌, ℕ, Bool, true, false, List, [], codes, Option, Some, None, Result, Ok, Err, OnOk, if◌then◌else◌, ⊤}
+use Rattle.sg_value.specs.Plain.{Things}
 use Rattle.std.specs.Io.KnownBytes.{append_known}
 use Rattle.std.specs.Str.{bytes_eq}
-use Rattle.sg_value.specs.Data.{Items}
+use Rattle.sg_value.specs.Data.{Items, semigroups}
 use Rattle.sg_rows.specs.Kinds.{as_list}
 use Rattle.sg_tree.specs.Tree.{Tree, number, quoted, truth, failing, variable, call, display, span, minus, negation, chain, compare, item as item_tree, Arguments, Code, nothing, quit, assign, choose, each, perform, Arms, no_arms, arm}
 use Rattle.sg_store.specs.Interned.{Keeps}
@@ -88,7 +89,7 @@ print_done args = eval_given [] args >>= printed
 abbrev pub held : Vars → Tree → Process Bool
 held env t = eval env t >>= (λ d. decided d (λ b. gives b))
 
-abbrev pub listed_of : Vars → Tree → Process (Items (List ℕ))
+abbrev pub listed_of : Vars → Tree → Process (Items Things)
 listed_of env t = eval env t >>= (λ d. listed (as_list d) (λ ds. gives ds))
 
 -- no fault of the script

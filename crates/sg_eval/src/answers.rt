@@ -1,6 +1,7 @@
 //! What the forms of the language answer that are no command and no operator of two operands.
 
 ghost use Rattle.std.specs.Int.{w64};
+ghost use Rattle.sg_value.specs.Known.{named};
 ghost use Rattle.std.specs.Prelude.{◌≡◌, ℕ, List, Option, Some, None, MatchOption, OnOk, IfOk, pos, ◌+ℤ◌, ◌<◌, FitsSigned, ◌-ℤ◌, ◌-◌, ◌^◌, min, ◌++◌, ◌∷◌, [], slice_get};
 ghost use Rattle.sg_value.specs.Plain.{AllKnown, AllKnownIn, contents, contents_of_all, plain, plain_of_all};
 ghost use Rattle.sg_value.specs.Data.{list, truth};
@@ -26,7 +27,7 @@ const WEIGHT_LIMIT: u64 = 4_194_304;
 
 /// The list of these entries, within the limits.
 pub fn list_of(values: Vec<Value>) -> Result<Value, CallFault>
-    ensures { (s : State) → AllKnownIn (slice_get s.names) values.items → Evaluates plain AllKnown result s s (λ names. ask (lists (plain_of_all names values.items))) }
+    ensures { (s : State) → AllKnownIn (named s.names) values.items → Evaluates plain AllKnown result s s (λ names. ask (lists (plain_of_all names values.items))) }
 {
     let list = Value::List(values);
     if depth(&list) > DEPTH_LIMIT {
@@ -40,7 +41,7 @@ pub fn list_of(values: Vec<Value>) -> Result<Value, CallFault>
 
 /// The value with the other sign.
 pub fn other_sign(v: &Value) -> Result<Value, CallFault>
-    ensures { (s : State) → AllKnown (slice_get s.names) v.now → Evaluates plain AllKnown result s s (λ names. ask (negates (plain names v.now))) }
+    ensures { (s : State) → AllKnown (named s.names) v.now → Evaluates plain AllKnown result s s (λ names. ask (negates (plain names v.now))) }
 {
     negate(v)
 }
@@ -57,7 +58,7 @@ pub fn decide(v: &Value) -> Result<bool, CallFault>
 
 /// The entries of a list.
 pub fn entries(v: Value) -> Result<Vec<Value>, CallFault>
-    ensures { (s : State) → AllKnown (slice_get s.names) v → Evaluates plain_in known_in result s s (λ names. listed (as_list (plain names v)) (λ ds. gives ds)) }
+    ensures { (s : State) → AllKnown (named s.names) v → Evaluates plain_in known_in result s s (λ names. listed (as_list (plain names v)) (λ ds. gives ds)) }
 {
     match into_entries(v) {
         Some(entries) => Ok(entries),
@@ -91,7 +92,7 @@ fn entry_at(entries: &[Value], place: u64) -> Option<&Value>
 
 /// The entry of a list at a place.
 pub fn index(alloc: Global, list: &Value, place: &Value) -> Result<Value, CallFault>
-    ensures { (s : State) → AllKnown (slice_get s.names) list.now → Evaluates plain AllKnown result s s (λ names. ask (indexes (plain names list.now) (plain names place.now))) }
+    ensures { (s : State) → AllKnown (named s.names) list.now → Evaluates plain AllKnown result s s (λ names. ask (indexes (plain names list.now) (plain names place.now))) }
 {
     let Some(entries) = entries_of(list) else {
         return Err(CallFault::Script(Fault::WrongType));

@@ -1,7 +1,8 @@
 //! What expressions give.
 
 ghost use Rattle.std.specs.Prelude.{◌≡◌, ◌∷◌, Some, None, MatchOption, IfOk, length, slice_get, ⊤};
-ghost use Rattle.sg_value.specs.Plain.{AllKnown, AllKnownIn, plain, plain_of_all};
+ghost use Rattle.sg_value.specs.Known.{named};
+ghost use Rattle.sg_value.specs.Plain.{AllKnown, AllKnownIn, plain, plain_of_all, Plain};
 ghost use Rattle.sg_tree.specs.TreeView.{tree_of, trees_of, links_of, argument_of, arguments_of};
 ghost use Rattle.sg_tree.specs.Tree.{display as displayed, call as called};
 ghost use Rattle.sg_eval.specs.Expressions.{eval as meaning, eval_all as meaning_of_all, eval_places, eval_links, eval_given, eval_folding};
@@ -137,7 +138,7 @@ fn item(
     places: &[Expr],
     list: Value,
 ) -> Result<Value, CallFault>
-    requires { AllKnown (slice_get (state_of machine.old).names) list }
+    requires { AllKnown (named (state_of machine.old).names) list }
     ensures { Evaluates plain AllKnown result (state_of machine.old) (state_of machine.new) (λ names. eval_places (state_of machine.old).parameters (plain names list) (trees_of places.now)) }
 {
     let mut value = list;
@@ -176,7 +177,7 @@ fn next_item(
     name: &[u8],
     list: Option<Value>,
 ) -> Result<Value, CallFault>
-    requires { known_if (slice_get (state_of machine.old).names) list }
+    requires { known_if (named (state_of machine.old).names) list }
     ensures { Evaluates plain AllKnown result (state_of machine.old) (state_of machine.new) (λ names. next_from (state_of machine.old).parameters name.now (plain_if names list) (tree_of place.now)) }
 {
     match list {
@@ -198,7 +199,7 @@ fn compared(
     op: Operator,
     left: Value,
 ) -> Result<Value, CallFault>
-    requires { AllKnown (slice_get (state_of machine.old).names) left }
+    requires { AllKnown (named (state_of machine.old).names) left }
     ensures { Evaluates plain AllKnown result (state_of machine.old) (state_of machine.new) (λ names. compared_with (state_of machine.old).parameters op (plain names left) (tree_of right.now)) }
 {
     if let Expr::Var(name) = right {
@@ -216,7 +217,7 @@ fn item_at(
     place: &Expr,
     list: Value,
 ) -> Result<Value, CallFault>
-    requires { AllKnown (slice_get (state_of machine.old).names) list }
+    requires { AllKnown (named (state_of machine.old).names) list }
     ensures { Evaluates plain AllKnown result (state_of machine.old) (state_of machine.new) (λ names. placed (state_of machine.old).parameters (plain names list) (tree_of place.now)) }
 {
     let at = eval(alloc, machine, place)?;
@@ -231,7 +232,7 @@ fn chain(
     links: &[(Op, Expr)],
     first: Value,
 ) -> Result<Value, CallFault>
-    requires { AllKnown (slice_get (state_of machine.old).names) first }
+    requires { AllKnown (named (state_of machine.old).names) first }
     ensures { Evaluates plain AllKnown result (state_of machine.old) (state_of machine.new) (λ names. eval_links (state_of machine.old).parameters (plain names first) (links_of links.now)) }
 {
     let mut value = first;
@@ -253,7 +254,7 @@ fn linked(
     op: Op,
     left: Value,
 ) -> Result<Value, CallFault>
-    requires { AllKnown (slice_get (state_of machine.old).names) left }
+    requires { AllKnown (named (state_of machine.old).names) left }
     ensures { Evaluates plain AllKnown result (state_of machine.old) (state_of machine.new) (λ names. linked_meaning (state_of machine.old).parameters op (tree_of operand.now) (plain names left)) }
 {
     let right = eval(alloc, machine, operand)?;
@@ -299,7 +300,7 @@ fn folded(
     fold: Folding,
     entries: &[Value],
 ) -> Result<Value, CallFault>
-    requires { AllKnownIn (slice_get (state_of machine.old).names) entries.now }
+    requires { AllKnownIn (named (state_of machine.old).names) entries.now }
     ensures { Evaluates plain AllKnown result (state_of machine.old) (state_of machine.new) (λ names. fold_on fold (λ e. meaning ((parameter.now, e) ∷ (state_of machine.old).parameters) (tree_of body.now)) none (plain_of_all names entries.now)) }
 {
     let mut gathered = Vec::new(alloc);
@@ -322,7 +323,7 @@ fn apply(
     parameter: &Bytes,
     entry: &Value,
 ) -> Result<Value, CallFault>
-    requires { AllKnown (slice_get (state_of machine.old).names) entry.now }
+    requires { AllKnown (named (state_of machine.old).names) entry.now }
     ensures { Evaluates plain AllKnown result (state_of machine.old) (state_of machine.new) (λ names. meaning ((parameter.now, plain names entry.now) ∷ (state_of machine.old).parameters) (tree_of body.now)) }
 {
     let copy = try_clone(entry, alloc)?;

@@ -1,6 +1,7 @@
 //! What statements do.
 
 ghost use Rattle.std.specs.Prelude.{◌≡◌, ◌++◌, [], List, ℕ, Option, Some, None, MatchOption, IfOk, IfErr, OnOk, OnErr, slice_get};
+ghost use Rattle.sg_value.specs.Known.{named};
 ghost use Rattle.std.specs.Io.KnownBytes.{append_known};
 ghost use Rattle.sg_io.specs.Faults.{AppendsFront, HasCauseAt};
 ghost use Rattle.sg_value.specs.Plain.{AllKnown, AllKnownIn, plain, plain_of_all};
@@ -107,8 +108,8 @@ fn repeat<W: Sink>(
     out: &mut W,
 ) -> Result<(), StepFault>
     requires parameters { (state_of machine.old).parameters ≡ [] }
-    requires known { AllKnownIn (slice_get (state_of machine.old).names) entries.now }
-    ensures done { Executed result (state_of machine.old) (state_of machine.new) (W.taken out.old) (W.taken out.new) (over (λ e. sets name.now e (meaning_of_all (block_of body.now))) (plain_of_all (slice_get (state_of machine.old).names) entries.now)) }
+    requires known { AllKnownIn (named (state_of machine.old).names) entries.now }
+    ensures done { Executed result (state_of machine.old) (state_of machine.new) (W.taken out.old) (W.taken out.new) (over (λ e. sets name.now e (meaning_of_all (block_of body.now))) (plain_of_all (named (state_of machine.old).names) entries.now)) }
     ensures cause { HasCauseAt StepFault.Write (W.faults out.old) (W.faults out.new) result }
     ensures sure { W.sure out.new ≡ W.sure out.old }
 {

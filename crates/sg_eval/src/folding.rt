@@ -1,6 +1,7 @@
 //! The commands whose second argument is an arrow.
 
 ghost use Rattle.std.specs.Prelude.{◌≡◌, OnOk, IfOk, slice_get};
+ghost use Rattle.sg_value.specs.Known.{named};
 ghost use Rattle.sg_value.specs.Plain.{AllKnown, AllKnownIn, contents, contents_of_all, plain, plain_of_all};
 ghost use Rattle.sg_rows.specs.Words.{join};
 ghost use Rattle.sg_eval.specs.Expressions.{folding_named};
@@ -108,7 +109,7 @@ pub fn gather(
 
 /// The answer, once all entries were looked at or not.
 pub fn finished(fold: Folding, all: bool, gathered: Vec<Value>) -> Result<Value, CallFault>
-    ensures { (s : State) → AllKnownIn (slice_get s.names) gathered.items → Evaluates plain AllKnown result s s (λ names. finished fold all (plain_of_all names gathered.items)) }
+    ensures { (s : State) → AllKnownIn (named s.names) gathered.items → Evaluates plain AllKnown result s s (λ names. finished fold all (plain_of_all names gathered.items)) }
 {
     match fold {
         Folding::EachValue | Folding::ThoseTrue => list_of(gathered),
@@ -120,7 +121,7 @@ pub fn finished(fold: Folding, all: bool, gathered: Vec<Value>) -> Result<Value,
 
 /// The entries of a list, where there is one.
 pub fn entries_if(v: Option<Value>) -> Result<Vec<Value>, CallFault>
-    ensures { (s : State) → known_if (slice_get s.names) v → Evaluates plain_in known_in result s s (λ names. listed_if (plain_if names v) (λ ds. gives ds)) }
+    ensures { (s : State) → known_if (named s.names) v → Evaluates plain_in known_in result s s (λ names. listed_if (plain_if names v) (λ ds. gives ds)) }
 {
     match v {
         Some(value) => entries(value),

@@ -1,6 +1,7 @@
 //! The operators of chains and comparisons.
 
 ghost use Rattle.std.specs.Prelude.{◌≡◌};
+ghost use Rattle.sg_value.specs.Known.{named};
 ghost use Rattle.sg_value.specs.Plain.{plain, AllKnown};
 ghost use Rattle.std.specs.Prelude.{slice_get};
 ghost use Rattle.sg_eval.specs.Expressions.{relation, decided};
@@ -56,7 +57,7 @@ pub fn ends_chain(op: Op, left: &Value) -> Result<bool, CallFault>
 
 /// The value, which has to be a truth value.
 pub fn truth_itself(v: Value) -> Result<Value, CallFault>
-    ensures { (s : State) → AllKnown (slice_get s.names) v → Evaluates plain AllKnown result s s (λ names. decided (plain names v) (λ b. gives (plain names v))) }
+    ensures { (s : State) → AllKnown (named s.names) v → Evaluates plain AllKnown result s s (λ names. decided (plain names v) (λ b. gives (plain names v))) }
 {
     decide(&v)?;
     Ok(v)

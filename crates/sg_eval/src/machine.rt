@@ -1,6 +1,8 @@
 //! The machine that a script runs on.
 
 ghost use Rattle.sg_eval.specs.State.{AreKnown, AreKnownIn};
+ghost use Rattle.sg_value.specs.Data.{semigroups};
+ghost use Rattle.sg_value.specs.Known.{named};
 ghost use Rattle.sg_eval.specs.KnownFacts.{are_known-prop};
 
 use crate::answers::index;
@@ -85,7 +87,7 @@ impl Machine {
         a: &Value,
         name: &[u8],
     ) -> Result<Value, CallFault>
-        requires { AllKnown (slice_get (state_of self.old).names) a.now }
+        requires { AllKnown (named (state_of self.old).names) a.now }
         ensures { Evaluates plain AllKnown result (state_of self.old) (state_of self.new) (λ names. combined_with (state_of self.old).parameters op (plain names a.now) name.now) }
     {
         let b = find_in(&self.parameters, &self.variables, name)?;
@@ -100,7 +102,7 @@ impl Machine {
         args: &[Value],
     ) -> Result<Value, CallFault>
         requires checked { checked command.now (length args.now) ≡ None }
-        requires known { AllKnownIn (slice_get (state_of self.old).names) args.now }
+        requires known { AllKnownIn (named (state_of self.old).names) args.now }
         ensures { Evaluates plain AllKnown result (state_of self.old) (state_of self.new) (λ names. ask (calls command.now (plain_of_all names args.now))) }
     {
         answer(alloc, &mut self.store, command, args)
@@ -114,8 +116,8 @@ impl Machine {
         a: &Value,
         b: &Value,
     ) -> Result<Value, CallFault>
-        requires left { AllKnown (slice_get (state_of self.old).names) a.now }
-        requires right { AllKnown (slice_get (state_of self.old).names) b.now }
+        requires left { AllKnown (named (state_of self.old).names) a.now }
+        requires right { AllKnown (named (state_of self.old).names) b.now }
         ensures { Evaluates plain AllKnown result (state_of self.old) (state_of self.new) (λ names. ask (combines op (plain names a.now) (plain names b.now))) }
     {
         combine(alloc, &mut self.store, op, a, b)
@@ -123,10 +125,10 @@ impl Machine {
 
     /// A parameter comes in, nearest of all.
     pub fn bind(&mut self, name: &Bytes, value: Value) -> Result<(), AllocError>
-        requires known { AllKnown (slice_get (state_of self.old).names) value }
+        requires known { AllKnown (named (state_of self.old).names) value }
         ensures names { (state_of self.new).names ≡ (state_of self.old).names }
         ensures variables { (state_of self.new).variables ≡ (state_of self.old).variables }
-        ensures ok { OnOk result ((state_of self.new).parameters ≡ (name.now, plain (slice_get (state_of self.old).names) value) ∷ (state_of self.old).parameters) }
+        ensures ok { OnOk result ((state_of self.new).parameters ≡ (name.now, plain (named (state_of self.old).names) value) ∷ (state_of self.old).parameters) }
     {
         let name = name.try_clone()?;
         self.parameters.insert(0, Variable { name, value })?;
@@ -154,9 +156,9 @@ impl Machine {
 
     /// A variable gets a value.
     pub fn set(&mut self, alloc: Global, name: &Bytes, value: Value) -> Result<(), AllocError>
-        requires known { AllKnown (slice_get (state_of self.old).names) value }
+        requires known { AllKnown (named (state_of self.old).names) value }
         ensures names { (state_of self.new).names ≡ (state_of self.old).names }
-        ensures ok { OnOk result ((state_of self.new).variables ≡ with_value name.now (plain (slice_get (state_of self.old).names) value) (state_of self.old).variables) }
+        ensures ok { OnOk result ((state_of self.new).variables ≡ with_value name.now (plain (named (state_of self.old).names) value) (state_of self.old).variables) }
         ensures err { OnErr result ((state_of self.new).variables ≡ (state_of self.old).variables) }
         ensures parameters { (state_of self.new).parameters ≡ (state_of self.old).parameters }
     {
@@ -165,8 +167,8 @@ impl Machine {
 
     /// The texts of the values, one after the other.
     pub fn texts(&self, alloc: Global, values: &[Value]) -> Result<Bytes, AllocError>
-        requires known { AllKnownIn (slice_get (state_of self.now).names) values.now }
-        ensures { IfOk result (λ text. text ≡ texts_of (plain_of_all (slice_get (state_of self.now).names) values.now)) }
+        requires known { AllKnownIn (named (state_of self.now).names) values.now }
+        ensures { IfOk result (λ text. text ≡ texts_of (plain_of_all (named (state_of self.now).names) values.now)) }
     {
         let mut text = Bytes::new(alloc);
         for value in values {

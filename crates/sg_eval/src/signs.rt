@@ -1,6 +1,7 @@
 //! Signs and the word `not` before an operand.
 
 ghost use Rattle.std.specs.Prelude.{◌≡◌, slice_get};
+ghost use Rattle.sg_value.specs.Known.{named};
 ghost use Rattle.sg_value.specs.Data.{truth};
 ghost use Rattle.sg_value.specs.Plain.{plain, AllKnown};
 ghost use Rattle.sg_eval.specs.Expressions.{negated, turned, decided};
@@ -14,7 +15,7 @@ use sg_value::Value;
 
 /// The value after so many minus signs.
 pub fn negated(count: u64, v: Value) -> Result<Value, CallFault>
-    ensures { (s : State) → AllKnown (slice_get s.names) v → Evaluates plain AllKnown result s s (λ names. negated count (plain names v)) }
+    ensures { (s : State) → AllKnown (named s.names) v → Evaluates plain AllKnown result s s (λ names. negated count (plain names v)) }
 {
     let mut value = v;
     for i in 0..count {

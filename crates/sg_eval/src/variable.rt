@@ -1,6 +1,7 @@
 //! Names with their values.
 
 ghost use Rattle.std.specs.Prelude.{◌≡◌, ℕ, List, Some, None, MatchOption, slice_get, ⊤};
+ghost use Rattle.sg_value.specs.Known.{Known, named};
 ghost use Rattle.std.specs.Map.{lookup};
 ghost use Rattle.std.specs.Str.{bytes_eq};
 ghost use Rattle.sg_value.specs.Plain.{AllKnown, plain};
@@ -18,8 +19,8 @@ pub struct Variable {
 
 /// The value of the first entry of this name.
 pub fn find<'a>(entries: &'a [Variable], name: &[u8]) -> Option<&'a Value>
-    ensures found { (names : List (List ℕ)) → MatchOption result (lookup (bytes_eq name.now) (vars_of names entries.now) ≡ None) (λ v. lookup (bytes_eq name.now) (vars_of names entries.now) ≡ Some (plain (slice_get names) v.now)) }
-    ensures known { (names : List (List ℕ)) → AreKnown names entries.now → MatchOption result ⊤ (λ v. AllKnown (slice_get names) v.now) }
+    ensures found { (names : Known) → MatchOption result (lookup (bytes_eq name.now) (vars_of names entries.now) ≡ None) (λ v. lookup (bytes_eq name.now) (vars_of names entries.now) ≡ Some (plain (named names) v.now)) }
+    ensures known { (names : Known) → AreKnown names entries.now → MatchOption result ⊤ (λ v. AllKnown (named names) v.now) }
 {
     for entry in entries {
         if name == entry.name.as_slice() {

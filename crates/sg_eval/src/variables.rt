@@ -1,6 +1,7 @@
 //! The variables, each name with its value.
 
 ghost use Rattle.std.specs.Prelude.{◌≡◌, ℕ, List, Some, None, MatchOption, OnOk, OnErr, slice_get, ⊤};
+ghost use Rattle.sg_value.specs.Known.{Known, named};
 ghost use Rattle.std.specs.Map.{lookup};
 ghost use Rattle.std.specs.Str.{bytes_eq};
 ghost use Rattle.sg_value.specs.Plain.{AllKnown, plain};
@@ -20,8 +21,8 @@ pub type Variables = IndexMap<Vec<u8>, Value>;
 
 /// The value of a variable.
 pub fn value_of<'a>(variables: &'a Variables, name: &[u8]) -> Option<&'a Value>
-    ensures found { (names : List (List ℕ)) → MatchOption result (lookup (bytes_eq name.now) (values_of names variables.now.entries) ≡ None) (λ v. lookup (bytes_eq name.now) (values_of names variables.now.entries) ≡ Some (plain (slice_get names) v.now)) }
-    ensures known { (names : List (List ℕ)) → AreKnownIn names variables.now.entries → MatchOption result ⊤ (λ v. AllKnown (slice_get names) v.now) }
+    ensures found { (names : Known) → MatchOption result (lookup (bytes_eq name.now) (values_of names variables.now.entries) ≡ None) (λ v. lookup (bytes_eq name.now) (values_of names variables.now.entries) ≡ Some (plain (named names) v.now)) }
+    ensures known { (names : Known) → AreKnownIn names variables.now.entries → MatchOption result ⊤ (λ v. AllKnown (named names) v.now) }
 {
     variables.get(name)
 }
@@ -33,8 +34,8 @@ pub fn set(
     name: &[u8],
     value: Value,
 ) -> Result<(), AllocError>
-    ensures ok { OnOk result ((names : List (List ℕ)) → values_of names variables.new.entries ≡ with_value name.now (plain (slice_get names) value) (values_of names variables.old.entries)) }
-    ensures known { OnOk result ((names : List (List ℕ)) → AreKnownIn names variables.old.entries → AllKnown (slice_get names) value → AreKnownIn names variables.new.entries) }
+    ensures ok { OnOk result ((names : Known) → values_of names variables.new.entries ≡ with_value name.now (plain (named names) value) (values_of names variables.old.entries)) }
+    ensures known { OnOk result ((names : Known) → AreKnownIn names variables.old.entries → AllKnown (named names) value → AreKnownIn names variables.new.entries) }
     ensures err { OnErr result (variables.new.entries ≡ variables.old.entries) }
 {
     if let Some(place) = variables.get_mut(name) {

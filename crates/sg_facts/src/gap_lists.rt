@@ -1,6 +1,7 @@
 //! Commands on the lists that grow with the span of a semigroup.
 
 ghost use Rattle.std.specs.Prelude.{◌≡◌, List, ℕ, slice_get};
+ghost use Rattle.sg_value.specs.Known.{Known, named};
 ghost use Rattle.sg_defs.specs.Listings.{Lists};
 ghost use Rattle.sg_defs.specs.Invariants.{IsGap, IsFundamentalGap, AreSmallElements};
 ghost use Rattle.sg_value.specs.Plain.{AllKnown, plain};
@@ -19,7 +20,7 @@ use std::alloc::Global;
 
 /// The gaps. Their number is known before the list is made.
 fn gaps_within(alloc: Global, table: &Table) -> Result<Value, CallFault>
-    ensures { (store : List (List ℕ)) → Replies result store (fits (spanned table.now (naturals_with (Lists (IsGap table.now))))) }
+    ensures { (store : Known) → Replies result store (fits (spanned table.now (naturals_with (Lists (IsGap table.now))))) }
 {
     if is_wide(table) {
         return Err(CallFault::Script(Fault::TooLarge));
@@ -33,8 +34,8 @@ fn gaps_within(alloc: Global, table: &Table) -> Result<Value, CallFault>
 /// The gaps, ascending: the naturals that are no members (Rosales and Garcia-Sanchez, section 1.2). A value that is no
 /// semigroup is WrongType; a span past the limit, or a list past the limit of weights, is TooLarge.
 pub fn gaps_of(alloc: Global, store: &mut Store, s: &Value) -> Result<Value, CallFault>
-    requires { AllKnown (slice_get store.old) s.now }
-    ensures reply { Replies result store.new (gaps_of (plain (slice_get store.old) s.now)) }
+    requires { AllKnown (named store.old) s.now }
+    ensures reply { Replies result store.new (gaps_of (plain (named store.old) s.now)) }
     ensures unchanged { store.new ≡ store.old }
 {
     let Some(id) = semigroup_of(s) else {
@@ -46,7 +47,7 @@ pub fn gaps_of(alloc: Global, store: &mut Store, s: &Value) -> Result<Value, Cal
 
 /// The small elements. Their number is known before the list is made: each number up to the conductor is a member or a gap.
 fn small_elements_within(alloc: Global, table: &Table) -> Result<Value, CallFault>
-    ensures { (store : List (List ℕ)) → Replies result store (fits (spanned table.now (naturals_with (AreSmallElements table.now)))) }
+    ensures { (store : Known) → Replies result store (fits (spanned table.now (naturals_with (AreSmallElements table.now)))) }
 {
     if is_wide(table) {
         return Err(CallFault::Script(Fault::TooLarge));
@@ -60,8 +61,8 @@ fn small_elements_within(alloc: Global, table: &Table) -> Result<Value, CallFaul
 /// The small elements, ascending: the members up to the conductor (Rosales and Garcia-Sanchez, section 2.3). A value that is no
 /// semigroup is WrongType; a span past the limit, or a list past the limit of weights, is TooLarge.
 pub fn small_elements_of(alloc: Global, store: &mut Store, s: &Value) -> Result<Value, CallFault>
-    requires { AllKnown (slice_get store.old) s.now }
-    ensures reply { Replies result store.new (small_elements_of (plain (slice_get store.old) s.now)) }
+    requires { AllKnown (named store.old) s.now }
+    ensures reply { Replies result store.new (small_elements_of (plain (named store.old) s.now)) }
     ensures unchanged { store.new ≡ store.old }
 {
     let Some(id) = semigroup_of(s) else {
@@ -73,7 +74,7 @@ pub fn small_elements_of(alloc: Global, store: &mut Store, s: &Value) -> Result<
 
 /// The fundamental gaps.
 fn fundamental_gaps_within(alloc: Global, table: &Table) -> Result<Value, CallFault>
-    ensures { (store : List (List ℕ)) → Replies result store (fits (spanned table.now (naturals_with (Lists (IsFundamentalGap table.now))))) }
+    ensures { (store : Known) → Replies result store (fits (spanned table.now (naturals_with (Lists (IsFundamentalGap table.now))))) }
 {
     if is_wide(table) {
         return Err(CallFault::Script(Fault::TooLarge));
@@ -85,8 +86,8 @@ fn fundamental_gaps_within(alloc: Global, table: &Table) -> Result<Value, CallFa
 /// section 4.1). A value that is no
 /// semigroup is WrongType; a span past the limit, or a list past the limit of weights, is TooLarge.
 pub fn fundamental_gaps_of(alloc: Global, store: &mut Store, s: &Value) -> Result<Value, CallFault>
-    requires { AllKnown (slice_get store.old) s.now }
-    ensures reply { Replies result store.new (fundamental_gaps_of (plain (slice_get store.old) s.now)) }
+    requires { AllKnown (named store.old) s.now }
+    ensures reply { Replies result store.new (fundamental_gaps_of (plain (named store.old) s.now)) }
     ensures unchanged { store.new ≡ store.old }
 {
     let Some(id) = semigroup_of(s) else {

@@ -1,6 +1,7 @@
 //! Commands on the lists of numbers that belong to a semigroup.
 
 ghost use Rattle.std.specs.Prelude.{◌≡◌, slice_get};
+ghost use Rattle.sg_value.specs.Known.{named};
 ghost use Rattle.sg_value.specs.Plain.{AllKnown, plain};
 ghost use Rattle.sg_facts.specs.Lists.{minimal_generators_of, apery_list_of, pseudo_frobenius_of, special_gaps_of};
 ghost use Rattle.sg_rows.specs.Replies.{Replies};
@@ -13,8 +14,8 @@ use std::alloc::Global;
 
 /// The minimal generators, ascending (Rosales and Garcia-Sanchez, section 1.2). A value that is no semigroup is WrongType.
 pub fn minimal_generators_of(alloc: Global, store: &Store, s: &Value) -> Result<Value, CallFault>
-    requires { AllKnown (slice_get store.now) s.now }
-    ensures { Replies result store.now (minimal_generators_of (plain (slice_get store.now) s.now)) }
+    requires { AllKnown (named store.now) s.now }
+    ensures { Replies result store.now (minimal_generators_of (plain (named store.now) s.now)) }
 {
     let Some(id) = semigroup_of(s) else {
         return Err(CallFault::Script(Fault::WrongType));
@@ -25,8 +26,8 @@ pub fn minimal_generators_of(alloc: Global, store: &Store, s: &Value) -> Result<
 /// The Apery list modulo the multiplicity: entry `i` is the least member congruent to `i` (Rosales and Garcia-Sanchez,
 /// section 1.2). A value that is no semigroup is WrongType.
 pub fn apery_list_of(alloc: Global, store: &mut Store, s: &Value) -> Result<Value, CallFault>
-    requires { AllKnown (slice_get store.old) s.now }
-    ensures reply { Replies result store.new (apery_list_of (plain (slice_get store.old) s.now)) }
+    requires { AllKnown (named store.old) s.now }
+    ensures reply { Replies result store.new (apery_list_of (plain (named store.old) s.now)) }
     ensures unchanged { store.new ≡ store.old }
 {
     let Some(id) = semigroup_of(s) else {
@@ -41,8 +42,8 @@ pub fn apery_list_of(alloc: Global, store: &mut Store, s: &Value) -> Result<Valu
 /// The pseudo-Frobenius numbers, ascending (Rosales and Garcia-Sanchez, section 1.3). A value that is no semigroup is
 /// WrongType.
 pub fn pseudo_frobenius_of(alloc: Global, store: &mut Store, s: &Value) -> Result<Value, CallFault>
-    requires { AllKnown (slice_get store.old) s.now }
-    ensures reply { Replies result store.new (pseudo_frobenius_of (plain (slice_get store.old) s.now)) }
+    requires { AllKnown (named store.old) s.now }
+    ensures reply { Replies result store.new (pseudo_frobenius_of (plain (named store.old) s.now)) }
     ensures unchanged { store.new ≡ store.old }
 {
     let Some(id) = semigroup_of(s) else {
@@ -55,8 +56,8 @@ pub fn pseudo_frobenius_of(alloc: Global, store: &mut Store, s: &Value) -> Resul
 /// The special gaps, ascending: the pseudo-Frobenius numbers whose double is a member (Rosales and Garcia-Sanchez,
 /// section 3.2). A value that is no semigroup is WrongType.
 pub fn special_gaps_of(alloc: Global, store: &mut Store, s: &Value) -> Result<Value, CallFault>
-    requires { AllKnown (slice_get store.old) s.now }
-    ensures reply { Replies result store.new (special_gaps_of (plain (slice_get store.old) s.now)) }
+    requires { AllKnown (named store.old) s.now }
+    ensures reply { Replies result store.new (special_gaps_of (plain (named store.old) s.now)) }
     ensures unchanged { store.new ≡ store.old }
 {
     let Some(id) = semigroup_of(s) else {

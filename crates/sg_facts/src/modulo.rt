@@ -1,6 +1,7 @@
 //! The command on the Apery list modulo a member.
 
 ghost use Rattle.std.specs.Prelude.{◌≡◌, List, ℕ, slice_get};
+ghost use Rattle.sg_value.specs.Known.{Known, named};
 ghost use Rattle.sg_value.specs.Plain.{AllKnown, plain};
 ghost use Rattle.sg_facts.specs.Modulo.{apery_modulo, apery_list_modulo_of};
 ghost use Rattle.sg_rows.specs.Order.{fits};
@@ -14,7 +15,7 @@ use std::alloc::Global;
 
 /// The Apery list modulo `n`, or the first refusal.
 fn apery_modulo(alloc: Global, table: &Table, n: i64) -> Result<Value, CallFault>
-    ensures { (store : List (List ℕ)) → Replies result store (fits (apery_modulo table.now n)) }
+    ensures { (store : Known) → Replies result store (fits (apery_modulo table.now n)) }
 {
     if n > MULTIPLICITY_LIMIT as i64 {
         return Err(CallFault::Script(Fault::TooLarge));
@@ -37,9 +38,9 @@ pub fn apery_list_modulo_of(
     a: &Value,
     b: &Value,
 ) -> Result<Value, CallFault>
-    requires first { AllKnown (slice_get store.old) a.now }
-    requires second { AllKnown (slice_get store.old) b.now }
-    ensures reply { Replies result store.new (apery_list_modulo_of (plain (slice_get store.old) a.now) (plain (slice_get store.old) b.now)) }
+    requires first { AllKnown (named store.old) a.now }
+    requires second { AllKnown (named store.old) b.now }
+    ensures reply { Replies result store.new (apery_list_modulo_of (plain (named store.old) a.now) (plain (named store.old) b.now)) }
     ensures unchanged { store.new ≡ store.old }
 {
     let Some((id, n)) = semigroup_and_integer(a, b) else {

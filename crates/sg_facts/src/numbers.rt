@@ -1,6 +1,7 @@
 //! Commands on the invariants of a semigroup.
 
 ghost use Rattle.std.specs.Prelude.{◌≡◌, slice_get};
+ghost use Rattle.sg_value.specs.Known.{named};
 ghost use Rattle.sg_value.specs.Plain.{AllKnown, plain};
 ghost use Rattle.sg_facts.specs.Numbers.{frobenius_number_of, multiplicity_of, embedding_dimension_of, conductor_of, genus_of, type_of};
 ghost use Rattle.sg_rows.specs.Replies.{Replies};
@@ -14,8 +15,8 @@ use std::alloc::Global;
 /// The Frobenius number: the greatest integer that is no member (Rosales and Garcia-Sanchez, section 1.1). A value that is
 /// no semigroup is WrongType.
 pub fn frobenius_number_of(alloc: Global, store: &mut Store, s: &Value) -> Result<Value, CallFault>
-    requires { AllKnown (slice_get store.old) s.now }
-    ensures reply { Replies result store.new (frobenius_number_of (plain (slice_get store.old) s.now)) }
+    requires { AllKnown (named store.old) s.now }
+    ensures reply { Replies result store.new (frobenius_number_of (plain (named store.old) s.now)) }
     ensures unchanged { store.new ≡ store.old }
 {
     let Some(id) = semigroup_of(s) else {
@@ -28,8 +29,8 @@ pub fn frobenius_number_of(alloc: Global, store: &mut Store, s: &Value) -> Resul
 /// The multiplicity: the least member above 0, which is the first of the minimal generators (Rosales and Garcia-Sanchez,
 /// section 1.2). A value that is no semigroup is WrongType.
 pub fn multiplicity_of(store: &Store, s: &Value) -> Result<Value, CallFault>
-    requires { AllKnown (slice_get store.now) s.now }
-    ensures { Replies result store.now (multiplicity_of (plain (slice_get store.now) s.now)) }
+    requires { AllKnown (named store.now) s.now }
+    ensures { Replies result store.now (multiplicity_of (plain (named store.now) s.now)) }
 {
     let Some(id) = semigroup_of(s) else {
         return Err(CallFault::Script(Fault::WrongType));
@@ -40,8 +41,8 @@ pub fn multiplicity_of(store: &Store, s: &Value) -> Result<Value, CallFault>
 /// The embedding dimension: the number of minimal generators (Rosales and Garcia-Sanchez, section 1.2). A value that is
 /// no semigroup is WrongType.
 pub fn embedding_dimension_of(store: &Store, s: &Value) -> Result<Value, CallFault>
-    requires { AllKnown (slice_get store.now) s.now }
-    ensures { Replies result store.now (embedding_dimension_of (plain (slice_get store.now) s.now)) }
+    requires { AllKnown (named store.now) s.now }
+    ensures { Replies result store.now (embedding_dimension_of (plain (named store.now) s.now)) }
 {
     let Some(id) = semigroup_of(s) else {
         return Err(CallFault::Script(Fault::WrongType));
@@ -52,8 +53,8 @@ pub fn embedding_dimension_of(store: &Store, s: &Value) -> Result<Value, CallFau
 /// The conductor: the least number from which on all are members (Rosales and Garcia-Sanchez, section 1.2). A value that
 /// is no semigroup is WrongType.
 pub fn conductor_of(alloc: Global, store: &mut Store, s: &Value) -> Result<Value, CallFault>
-    requires { AllKnown (slice_get store.old) s.now }
-    ensures reply { Replies result store.new (conductor_of (plain (slice_get store.old) s.now)) }
+    requires { AllKnown (named store.old) s.now }
+    ensures reply { Replies result store.new (conductor_of (plain (named store.old) s.now)) }
     ensures unchanged { store.new ≡ store.old }
 {
     let Some(id) = semigroup_of(s) else {
@@ -65,8 +66,8 @@ pub fn conductor_of(alloc: Global, store: &mut Store, s: &Value) -> Result<Value
 
 /// The genus: the number of gaps (Rosales and Garcia-Sanchez, section 1.2). A value that is no semigroup is WrongType.
 pub fn genus_of(alloc: Global, store: &mut Store, s: &Value) -> Result<Value, CallFault>
-    requires { AllKnown (slice_get store.old) s.now }
-    ensures reply { Replies result store.new (genus_of (plain (slice_get store.old) s.now)) }
+    requires { AllKnown (named store.old) s.now }
+    ensures reply { Replies result store.new (genus_of (plain (named store.old) s.now)) }
     ensures unchanged { store.new ≡ store.old }
 {
     let Some(id) = semigroup_of(s) else {
@@ -79,8 +80,8 @@ pub fn genus_of(alloc: Global, store: &mut Store, s: &Value) -> Result<Value, Ca
 /// The type: the number of pseudo-Frobenius numbers (Rosales and Garcia-Sanchez, section 1.3). A value that is no
 /// semigroup is WrongType.
 pub fn type_of(alloc: Global, store: &mut Store, s: &Value) -> Result<Value, CallFault>
-    requires { AllKnown (slice_get store.old) s.now }
-    ensures reply { Replies result store.new (type_of (plain (slice_get store.old) s.now)) }
+    requires { AllKnown (named store.old) s.now }
+    ensures reply { Replies result store.new (type_of (plain (named store.old) s.now)) }
     ensures unchanged { store.new ≡ store.old }
 {
     let Some(id) = semigroup_of(s) else {

@@ -1,6 +1,7 @@
 //! The worked examples, each call with ample memory.
 
 ghost use Rattle.std.specs.Prelude.{IfOk, slice_get};
+ghost use Rattle.sg_value.specs.Known.{named};
 ghost use Rattle.sg_value.specs.Plain.{AllKnown};
 
 use crate::{
@@ -17,7 +18,7 @@ use std::test::Fail;
 
 /// A store with the semigroup of these generators.
 fn stored(alloc: Global, generators: &[u64]) -> Result<(Store, Value), Fail>
-    ensures { IfOk result (λ found. AllKnown (slice_get found.0) found.1) }
+    ensures { IfOk result (λ found. AllKnown (named found.0) found.1) }
 {
     let mut store = Store::new(alloc);
     let table = Table::from_generators(alloc, generators)?;

@@ -1,9 +1,10 @@
 -- Concatenations as replies.
 use Rattle.std.proofs.Common.{◌≡◌, ◌<◌, ◌≤◌, ◌-◌, ℕ, List, Option, Some, None, IsSome, Ok, Err, Vec, slice_get, refl, ap, sym, ◌∙◌, subst, arith}
+use Rattle.sg_value.specs.Known.{Known, named}
 use Rattle.std.specs.Global.{Global}
 use Rattle.std.specs.Option.{option_map}
-use Rattle.sg_value.specs.Data.{list, Items, items_map, weight_of_all, depth_of_all, EachSemigroupOfAll}
-use Rattle.sg_value.specs.Plain.{AllKnownIn, IsKnown, contents_of_all, plain_of_all, generators_at}
+use Rattle.sg_value.specs.Data.{list, Items, items_map, weight_of_all, depth_of_all, EachThingOfAll}
+use Rattle.sg_value.specs.Plain.{AllKnownIn, IsKnown, contents_of_all, plain_of_all, thing_at, Places}
 use Rattle.sg_value.specs.declared.value.Value.{Value}
 use Rattle.sg_value.specs.declared.value.Value.TheVariants as value
 use Rattle.sg_rows.specs.Order.{fits, IsReply}
@@ -26,43 +27,43 @@ none_of None h = refl
 none_of (Some a) h = absurd (h refl)
 
 -- some argument is no list
-pub not_lists : (store : List (List ℕ)) (vs : List Value) → (IsSome (joined (contents_of_all vs)) → ⊥) → Replies (Err (Script WrongType)) store (concatenation_of (plain_of_all (slice_get store) vs))
+pub not_lists : (store : Known) (vs : List Value) → (IsSome (joined (contents_of_all vs)) → ⊥) → Replies (Err (Script WrongType)) store (concatenation_of (plain_of_all (named store) vs))
 not_lists store vs without =
-    let f = generators_at (slice_get store) in
+    let f = thing_at (named store) in
     subst (λ o. IsReply (given o (λ ds. fits (answers (λ d. d ≡ list ds)))) (Err WrongType)) (sym (joined-plain f (contents_of_all vs) ∙ ap (option_map (items_map f)) (none_of (joined (contents_of_all vs)) without))) refl
 
 -- the arguments are lists, whose entries are ds
-module _ (store : List (List ℕ)) (vs : List Value) (ds : Items ℕ) (is : joined (contents_of_all vs) ≡ Some ds) where
-  seen : joined (plain_of_all (slice_get store) vs) ≡ Some (items_map (generators_at (slice_get store)) ds)
-  seen = joined-plain (generators_at (slice_get store)) (contents_of_all vs) ∙ ap (option_map (items_map (generators_at (slice_get store)))) is
+module _ (store : Known) (vs : List Value) (ds : Items Places) (is : joined (contents_of_all vs) ≡ Some ds) where
+  seen : joined (plain_of_all (named store) vs) ≡ Some (items_map (thing_at (named store)) ds)
+  seen = joined-plain (thing_at (named store)) (contents_of_all vs) ∙ ap (option_map (items_map (thing_at (named store)))) is
 
-  deep : depth_of_all (items_map (generators_at (slice_get store)) ds) ≡ depth_of_all (contents_of_all vs) - 1
-  deep = depth_of_all-map (generators_at (slice_get store)) ds ∙ depth-joined (contents_of_all vs) ds is
+  deep : depth_of_all (items_map (thing_at (named store)) ds) ≡ depth_of_all (contents_of_all vs) - 1
+  deep = depth_of_all-map (thing_at (named store)) ds ∙ depth-joined (contents_of_all vs) ds is
 
-  heavy : weight_of_all (items_map (generators_at (slice_get store)) ds) ≡ weight_of_all ds
-  heavy = weight_of_all-map (generators_at (slice_get store)) ds
+  heavy : weight_of_all (items_map (thing_at (named store)) ds) ≡ weight_of_all ds
+  heavy = weight_of_all-map (thing_at (named store)) ds
 
-  pub too_deep : 64 < depth_of_all (contents_of_all vs) → Replies (Err (Script Depth)) store (concatenation_of (plain_of_all (slice_get store) vs))
+  pub too_deep : 64 < depth_of_all (contents_of_all vs) → Replies (Err (Script Depth)) store (concatenation_of (plain_of_all (named store) vs))
   too_deep past =
-      let all = items_map (generators_at (slice_get store)) ds in
+      let all = items_map (thing_at (named store)) ds in
       let e = deep in
       subst (λ o. Replies (Err (Script Depth)) store (given o (λ es. fits (answers (λ d. d ≡ list es))))) (sym seen)
       (replies_deep store (answers (λ d. d ≡ list all)) all (answers_pass (λ d. d ≡ list all)) refl (omega (arith, e, past)))
 
-  pub too_heavy : (64 < depth_of_all (contents_of_all vs) → ⊥) → 4194304 ≤ weight_of_all ds → Replies (Err (Script TooLarge)) store (concatenation_of (plain_of_all (slice_get store) vs))
+  pub too_heavy : (64 < depth_of_all (contents_of_all vs) → ⊥) → 4194304 ≤ weight_of_all ds → Replies (Err (Script TooLarge)) store (concatenation_of (plain_of_all (named store) vs))
   too_heavy shallow past =
-      let all = items_map (generators_at (slice_get store)) ds in
+      let all = items_map (thing_at (named store)) ds in
       let e = deep in
       let w = heavy in
       subst (λ o. Replies (Err (Script TooLarge)) store (given o (λ es. fits (answers (λ d. d ≡ list es))))) (sym seen)
       (replies_heavy store (answers (λ d. d ≡ list all)) all (answers_pass (λ d. d ≡ list all)) refl (omega (arith, e, shallow)) (omega (arith, w, past)))
 
-  pub within : (64 < depth_of_all (contents_of_all vs) → ⊥) → (4194304 ≤ weight_of_all ds → ⊥) → AllKnownIn (slice_get store) vs → (copies : Vec Value Global) → contents_of_all copies.items ≡ ds
-      → Replies (Ok (value.List copies)) store (concatenation_of (plain_of_all (slice_get store) vs))
+  pub within : (64 < depth_of_all (contents_of_all vs) → ⊥) → (4194304 ≤ weight_of_all ds → ⊥) → AllKnownIn (named store) vs → (copies : Vec Value Global) → contents_of_all copies.items ≡ ds
+      → Replies (Ok (value.List copies)) store (concatenation_of (plain_of_all (named store) vs))
   within shallow light known copies same =
-      let all = items_map (generators_at (slice_get store)) ds in
+      let all = items_map (thing_at (named store)) ds in
       let e = deep in
       let w = heavy in
       subst (λ o. Replies (Ok (value.List copies)) store (given o (λ es. fits (answers (λ d. d ≡ list es))))) (sym seen)
-      (replies_list store (answers (λ d. d ≡ list all)) all copies (answers_pass (λ d. d ≡ list all)) refl (ap (items_map (generators_at (slice_get store))) same) (omega (arith, e, shallow)) (omega (arith, w, light))
-      (subst (EachSemigroupOfAll (IsKnown (slice_get store))) (sym same) (known-joined (IsKnown (slice_get store)) (contents_of_all vs) ds is known)))
+      (replies_list store (answers (λ d. d ≡ list all)) all copies (answers_pass (λ d. d ≡ list all)) refl (ap (items_map (thing_at (named store))) same) (omega (arith, e, shallow)) (omega (arith, w, light))
+      (subst (EachThingOfAll (IsKnown (named store))) (sym same) (known-joined (IsKnown (named store)) (contents_of_all vs) ds is known)))

@@ -1,5 +1,6 @@
 -- The rows on lists have one value.
 use Rattle.std.proofs.Common.{◌≡◌, ℕ, ℤ, pos, List, ap, sym, ◌∙◌, subst, arith}
+use Rattle.sg_value.specs.Plain.{Things}
 use Rattle.std.specs.Prelude.{◌≤ℤ◌, Contains, All}
 use Rattle.std.proofs.lemmas.Int.{ints}
 use Rattle.sg_value.specs.Data.{int, list, Items}
@@ -44,5 +45,5 @@ gcd_one zs = natural_one (IsGcdOfAll zs) (same_gcd zs)
 pub lcm_one : (zs : List ℤ) → OneValue (lcm_of zs)
 lcm_one zs = natural_one (IsLcmOfAll zs) (same_lcm zs)
 
-pub concatenation_one : (args : Items (List ℕ)) → OneValue (concatenation_of args)
+pub concatenation_one : (args : Items Things) → OneValue (concatenation_of args)
 concatenation_one args = given_one (joined args) (λ ds. fits (answers (λ d. d ≡ list ds))) (λ ds. is_one _)

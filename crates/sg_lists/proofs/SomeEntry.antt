@@ -1,5 +1,6 @@
 -- The rows on lists have a value: a list with an entry has a greatest and a least, and each a greatest common divisor.
 use Rattle.std.proofs.Common.{◌≡◌, ◌≢◌, ℕ, zero, suc, ◌+◌, ◌-◌, ◌<◌, ◌≤◌, List, [], ◌∷◌, Option, Some, None, length, get_or, inl, inr, refl, sym, subst, arith}
+use Rattle.sg_value.specs.Plain.{Things}
 use Rattle.std.specs.Prelude.{◌⊎◌, ◌↔◌, IfSome, ℤ, pos, ⊤, ◌≤ℤ◌, ◌<ℤ◌, All, Contains, unsigned_abs}
 use Rattle.std.specs.Int.{◌∣◌, IsGcd}
 use Rattle.std.proofs.lemmas.Bool.{cases_lt, cases_eq}
@@ -14,7 +15,7 @@ use Rattle.sg_rows.proofs.SomeValue.{SomeValue, given_some, answers_some, bad_so
 use Rattle.sg_lists.specs.Lists.{length_of, sum_of, maximum_of, minimum_of, gcd_of, lcm_of, concatenation_of}
 use Rattle.sg_lists.proofs.Dividing.{lcm_exists}
 use Rattle.sg_lists.proofs.Joining.{known-joined}
-use Rattle.sg_rows.specs.Lawful.{IsLawfulList, AreLawful}
+use Rattle.sg_rows.specs.Lawful.{IsLawfulThing, AreLawful}
 use Rattle.sg_lists.specs.Words.{total, IsGreatest, IsLeast, EachOf, IsGcdOfAll, IsLcmOfAll, joined}
 
 contains-first : (z : ℤ) (zs : List ℤ) → Contains (z ∷ zs) z
@@ -88,10 +89,10 @@ pub lcm_some : (zs : List ℤ) → SomeValue (lcm_of zs)
 lcm_some [] = bad_some ([] ≡ []) (a_natural (IsLcmOfAll [])) (inl refl) (λ some. absurd (some refl))
 lcm_some (z ∷ zs) = bad_some ((z ∷ zs) ≡ []) (a_natural (IsLcmOfAll (z ∷ zs))) (inr (λ e. cc)) (λ some. natural_some (IsLcmOfAll (z ∷ zs)) (lcm_exists (z ∷ zs)))
 
-joined_lawful : (args : Items (List ℕ)) (o : Option (Items (List ℕ))) → joined args ≡ o → AreLawful args → IfSome o AreLawful
+joined_lawful : (args : Items Things) (o : Option (Items Things)) → joined args ≡ o → AreLawful args → IfSome o AreLawful
 joined_lawful args None e h = tt
-joined_lawful args (Some ds) e h = known-joined IsLawfulList args ds e h
+joined_lawful args (Some ds) e h = known-joined IsLawfulThing args ds e h
 
-pub concatenation_some : (args : Items (List ℕ)) → AreLawful args → SomeValue (concatenation_of args)
+pub concatenation_some : (args : Items Things) → AreLawful args → SomeValue (concatenation_of args)
 concatenation_some args h = given_some AreLawful (joined args) (λ ds. fits (answers (λ d. d ≡ list ds))) (joined_lawful args (joined args) refl h)
     (λ ds l. answers_some _ (is_some_value (list ds) l))

@@ -1,5 +1,6 @@
 -- The rows of the commands on lists and integers.
 use Rattle.std.specs.Prelude.{◌≡◌, ℕ, ℤ, pos, List, []}
+use Rattle.sg_value.specs.Plain.{Things}
 use Rattle.sg_value.specs.Data.{int, list, Items}
 use Rattle.sg_rows.specs.Order.{Plain, Case, fits}
 use Rattle.sg_rows.specs.Kinds.{given, as_list, as_integers, answers, a_natural, an_entry}
@@ -30,5 +31,5 @@ abbrev pub lcm_of : List ℤ → Case
 lcm_of zs = a_number (IsLcmOfAll zs) zs
 
 -- the entries of all lists, one list after the other
-abbrev pub concatenation_of : Items (List ℕ) → Case
+abbrev pub concatenation_of : Items Things → Case
 concatenation_of args = given (joined args) (λ ds. fits (answers (λ d. d ≡ list ds)))

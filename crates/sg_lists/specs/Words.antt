@@ -2,11 +2,11 @@
 use Rattle.std.specs.Prelude.{◌⊎◌, ◌↔◌, ℕ, ℤ, pos, ◌+ℤ◌, ◌≤ℤ◌, List, [], ◌∷◌, All, Contains, Option, Some, None, ⊤, unsigned_abs}
 use Rattle.std.specs.Option.{option_map}
 use Rattle.std.specs.Int.{◌∣◌}
-use Rattle.sg_value.specs.Data.{int, truth, text, list, fail, semigroup, Items, none, item}
+use Rattle.sg_value.specs.Data.{int, truth, text, list, fail, semigroup, ideal, Items, none, item, Kind}
 use Rattle.sg_rows.specs.Words.{join}
 
 -- the entries of all lists, one list after the other, where there is nothing but lists
-abbrev pub joined : {H : Type 0} → Items H → Option (Items H)
+abbrev pub joined : {H : Kind → Type 0} → Items H → Option (Items H)
 joined none = Some none
 joined (item (list ds) es) = option_map (join ds) (joined es)
 joined (item (int z) es) = None
@@ -14,6 +14,7 @@ joined (item (truth b) es) = None
 joined (item (text bs) es) = None
 joined (item fail es) = None
 joined (item (semigroup h) es) = None
+joined (item (ideal h) es) = None
 
 -- the sum of all
 abbrev pub total : List ℤ → ℤ

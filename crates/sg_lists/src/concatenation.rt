@@ -1,8 +1,9 @@
 //! Lists one after the other.
 
 ghost use Rattle.std.specs.Prelude.{◌≡◌, ◌<◌, ◌≤◌, ◌-◌, ◌^◌, ◌↔◌, ℕ, List, Some, IsSome, IsTrue, IfOk, OnOk, min, slice_get};
+ghost use Rattle.sg_value.specs.Known.{Known, named};
 ghost use Rattle.sg_value.specs.Data.{Items, weight_of_all, depth_of_all};
-ghost use Rattle.sg_value.specs.Plain.{AllKnownIn, contents, contents_of_all, plain_of_all};
+ghost use Rattle.sg_value.specs.Plain.{AllKnownIn, contents, contents_of_all, plain_of_all, Places};
 ghost use Rattle.sg_rows.specs.Kinds.{as_list};
 ghost use Rattle.sg_rows.specs.Words.{join};
 ghost use Rattle.sg_lists.specs.Words.{joined};
@@ -53,7 +54,7 @@ fn total_weight(values: &[Value]) -> u64
 
 /// Whether the entries of the lists are too heavy for one list. Each list weighs 1 more than its entries.
 fn are_heavy(lists: &[Value]) -> bool
-    ensures { (ds : Items ℕ) → joined (contents_of_all lists.now) ≡ Some ds → IsTrue result ↔ (4194304 ≤ weight_of_all ds) }
+    ensures { (ds : Items Places) → joined (contents_of_all lists.now) ≡ Some ds → IsTrue result ↔ (4194304 ≤ weight_of_all ds) }
 {
     is_heavy(total_weight(lists).saturating_sub(lists.len() as u64))
 }
@@ -70,7 +71,7 @@ fn add_copies(alloc: Global, copies: &mut Vec<Value>, entries: &[Value]) -> Resu
 
 /// Puts copies of the entries of a list last.
 fn add_entries(alloc: Global, copies: &mut Vec<Value>, list: &Value) -> Result<(), AllocError>
-    ensures { OnOk result ((xs : Items ℕ) → as_list (contents list.now) ≡ Some xs → contents_of_all copies.new.items ≡ join (contents_of_all copies.old.items) xs) }
+    ensures { OnOk result ((xs : Items Places) → as_list (contents list.now) ≡ Some xs → contents_of_all copies.new.items ≡ join (contents_of_all copies.old.items) xs) }
 {
     match entries_of(list) {
         Some(entries) => add_copies(alloc, copies, entries),
@@ -80,7 +81,7 @@ fn add_entries(alloc: Global, copies: &mut Vec<Value>, list: &Value) -> Result<(
 
 /// Copies of the entries of all lists.
 fn copies_of_all(alloc: Global, lists: &[Value]) -> Result<Vec<Value>, AllocError>
-    ensures { IfOk result (λ vs. (ds : Items ℕ) → joined (contents_of_all lists.now) ≡ Some ds → contents_of_all vs.items ≡ ds) }
+    ensures { IfOk result (λ vs. (ds : Items Places) → joined (contents_of_all lists.now) ≡ Some ds → contents_of_all vs.items ≡ ds) }
 {
     let mut copies = Vec::new(alloc);
     for list in lists {
@@ -91,7 +92,7 @@ fn copies_of_all(alloc: Global, lists: &[Value]) -> Result<Vec<Value>, AllocErro
 
 /// The entries of all lists, one list after the other. What is too deep or too heavy is refused before it is built.
 pub fn concatenation_of(alloc: Global, lists: &[Value]) -> Result<Value, CallFault>
-    ensures { (store : List (List ℕ)) → AllKnownIn (slice_get store) lists.now → Replies result store (concatenation_of (plain_of_all (slice_get store) lists.now)) }
+    ensures { (store : Known) → AllKnownIn (named store) lists.now → Replies result store (concatenation_of (plain_of_all (named store) lists.now)) }
 {
     if !are_lists(lists) {
         return Err(CallFault::Script(Fault::WrongType));

@@ -1,6 +1,7 @@
 //! Greatest common divisors and least common multiples of lists.
 
 ghost use Rattle.std.specs.Prelude.{◌≡◌, ◌<◌, ◌^◌, ◌↔◌, ℕ, ℤ, pos, List, [], ◌∷◌, SomeIff, IsTrue, FitsSigned, Contains, slice_get};
+ghost use Rattle.sg_value.specs.Known.{Known, named};
 ghost use Rattle.std.specs.Int.{w64};
 ghost use Rattle.sg_value.specs.Plain.{plain_of_all};
 ghost use Rattle.sg_rows.specs.Kinds.{given, spread};
@@ -33,7 +34,7 @@ fn signed(found: Option<u64>) -> Option<i64>
 
 /// The greatest common divisor, where there is an entry.
 fn gcd_of_integers(zs: &[i64]) -> Result<Value, CallFault>
-    ensures { (store : List (List ℕ)) → Replies result store (gcd_of zs.now) }
+    ensures { (store : Known) → Replies result store (gcd_of zs.now) }
 {
     if zs.is_empty() {
         return Err(CallFault::Script(Fault::BadArgument));
@@ -43,7 +44,7 @@ fn gcd_of_integers(zs: &[i64]) -> Result<Value, CallFault>
 
 /// The greatest common divisor of integers, given as one list or as the arguments.
 pub fn gcd_of(alloc: Global, args: &[Value]) -> Result<Value, CallFault>
-    ensures { (store : List (List ℕ)) → Replies result store (given (spread (plain_of_all (slice_get store) args.now)) gcd_of) }
+    ensures { (store : Known) → Replies result store (given (spread (plain_of_all (named store) args.now)) gcd_of) }
 {
     let zs = spread_integers(alloc, args)?;
     gcd_of_integers(zs.as_slice())
@@ -81,7 +82,7 @@ fn common_multiple(zs: &[i64]) -> Option<u64>
 
 /// The least common multiple, where there is an entry.
 fn lcm_of_integers(zs: &[i64]) -> Result<Value, CallFault>
-    ensures { (store : List (List ℕ)) → Replies result store (lcm_of zs.now) }
+    ensures { (store : Known) → Replies result store (lcm_of zs.now) }
 {
     if zs.is_empty() {
         return Err(CallFault::Script(Fault::BadArgument));
@@ -91,7 +92,7 @@ fn lcm_of_integers(zs: &[i64]) -> Result<Value, CallFault>
 
 /// The least common multiple of integers, given as one list or as the arguments.
 pub fn lcm_of(alloc: Global, args: &[Value]) -> Result<Value, CallFault>
-    ensures { (store : List (List ℕ)) → Replies result store (given (spread (plain_of_all (slice_get store) args.now)) lcm_of) }
+    ensures { (store : Known) → Replies result store (given (spread (plain_of_all (named store) args.now)) lcm_of) }
 {
     let zs = spread_integers(alloc, args)?;
     lcm_of_integers(zs.as_slice())

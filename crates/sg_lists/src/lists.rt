@@ -1,6 +1,7 @@
 //! Commands on lists.
 
 ghost use Rattle.std.specs.Prelude.{◌≡◌, ℕ, ℤ, ◌≤◌, ◌<◌, ◌^◌, List, [], length, slice_get, IfOk, IfErr, MatchOption, Some, IsTrue, ◌↔◌};
+ghost use Rattle.sg_value.specs.Known.{Known, named};
 ghost use Rattle.sg_value.specs.Data.{list, int};
 ghost use Rattle.sg_value.specs.Plain.{contents, contents_of_all, plain, plain_of_all};
 ghost use Rattle.sg_rows.specs.Kinds.{integers, as_integers};
@@ -16,7 +17,7 @@ use std::alloc::Global;
 
 /// The number of entries of a list.
 pub fn length_of(list: &Value) -> Result<Value, CallFault>
-    ensures { (store : List (List ℕ)) → Replies result store (length_of (plain (slice_get store) list.now)) }
+    ensures { (store : Known) → Replies result store (length_of (plain (named store) list.now)) }
 {
     let Some(entries) = entries_of(list) else {
         return Err(CallFault::Script(Fault::WrongType));
@@ -33,7 +34,7 @@ fn greatest(zs: &[i64]) -> Option<i64>
 
 /// The greatest entry of a list of integers.
 pub fn maximum_of(alloc: Global, list: &Value) -> Result<Value, CallFault>
-    ensures { (store : List (List ℕ)) → Replies result store (maximum_of (plain (slice_get store) list.now)) }
+    ensures { (store : Known) → Replies result store (maximum_of (plain (named store) list.now)) }
 {
     let zs = list_of_integers(alloc, list)?;
     match greatest(zs.as_slice()) {
@@ -51,7 +52,7 @@ fn least(zs: &[i64]) -> Option<i64>
 
 /// The least entry of a list of integers.
 pub fn minimum_of(alloc: Global, list: &Value) -> Result<Value, CallFault>
-    ensures { (store : List (List ℕ)) → Replies result store (minimum_of (plain (slice_get store) list.now)) }
+    ensures { (store : Known) → Replies result store (minimum_of (plain (named store) list.now)) }
 {
     let zs = list_of_integers(alloc, list)?;
     match least(zs.as_slice()) {

@@ -1,6 +1,7 @@
 //! Sums of lists.
 
 ghost use Rattle.std.specs.Prelude.{◌≡◌, ℕ, ℤ, List, SomeIff, FitsSigned, slice_get};
+ghost use Rattle.sg_value.specs.Known.{Known, named};
 ghost use Rattle.std.specs.Int.{w64};
 ghost use Rattle.sg_value.specs.Plain.{plain};
 ghost use Rattle.sg_lists.specs.Words.{total};
@@ -31,7 +32,7 @@ fn narrowed(z: i128) -> Option<i64>
 
 /// The sum of a list of integers. It overflows by the whole sum alone, whatever the sums on the way.
 pub fn sum_of(alloc: Global, list: &Value) -> Result<Value, CallFault>
-    ensures { (store : List (List ℕ)) → Replies result store (sum_of (plain (slice_get store) list.now)) }
+    ensures { (store : Known) → Replies result store (sum_of (plain (named store) list.now)) }
 {
     let zs = list_of_integers(alloc, list)?;
     integer(narrowed(total(zs.as_slice())))

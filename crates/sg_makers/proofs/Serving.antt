@@ -1,5 +1,6 @@
 -- Constructors as replies of rows.
 use Rattle.std.proofs.Common.{◌↔◌, ℕ, List, Result, Ok, Err, inl, inr, refl, sym, subst, arith}
+use Rattle.sg_value.specs.Known.{Known}
 use Rattle.std.specs.Prelude.{IfOk, IfErr, OnOk}
 use Rattle.sg_defs.specs.Membership.{Generates}
 use Rattle.sg_apery.specs.Fit.{IsFit, IsPastLimits, IsTooLarge}
@@ -39,7 +40,7 @@ pub record Serves (P Q : ℕ → Type 0) (accepted : Type 0) (R : TableFault →
   pub refused : R table.BadArgument → bad
   pub large : R table.TooLarge → (¬ bad) × ((G : List ℕ) → Generates P G → ¬ IsFit G)
 
-module _ (P Q : ℕ → Type 0) (accepted : Type 0) (R : TableFault → Type 0) (size bad : Type 0) (serves : Serves P Q accepted R size bad) (store : List (List ℕ)) where
+module _ (P Q : ℕ → Type 0) (accepted : Type 0) (R : TableFault → Type 0) (size bad : Type 0) (serves : Serves P Q accepted R size bad) (store : Known) where
   abbrev row : Row
   row = record (generates P) { size = size; bad = bad }
 

@@ -1,6 +1,8 @@
 //! Semigroups that others determine.
 
 ghost use Rattle.std.specs.Prelude.{slice_get};
+ghost use Rattle.sg_value.specs.Data.{semigroups};
+ghost use Rattle.sg_value.specs.Known.{named};
 ghost use Rattle.sg_value.specs.Plain.{AllKnown, plain};
 ghost use Rattle.sg_store.specs.Interned.{Keeps};
 ghost use Rattle.sg_rows.specs.Replies.{Replies};
@@ -22,9 +24,9 @@ pub fn intersection_of(
     s: &Value,
     t: &Value,
 ) -> Result<Value, CallFault>
-    requires first { AllKnown (slice_get store.old) s.now }
-    requires second { AllKnown (slice_get store.old) t.now }
-    ensures reply { Replies result store.new (intersection_of (plain (slice_get store.old) s.now) (plain (slice_get store.old) t.now)) }
+    requires first { AllKnown (named store.old) s.now }
+    requires second { AllKnown (named store.old) t.now }
+    ensures reply { Replies result store.new (intersection_of (plain (named store.old) s.now) (plain (named store.old) t.now)) }
     ensures keeps { Keeps store.old store.new }
 {
     let Some(first) = semigroup_of(s) else {
@@ -49,8 +51,8 @@ pub fn quotient_of(
     s: &Value,
     d: &Value,
 ) -> Result<Value, CallFault>
-    requires { AllKnown (slice_get store.old) s.now }
-    ensures reply { Replies result store.new (quotient_of (plain (slice_get store.old) s.now) (plain (slice_get store.old) d.now)) }
+    requires { AllKnown (named store.old) s.now }
+    ensures reply { Replies result store.new (quotient_of (plain (named store.old) s.now) (plain (named store.old) d.now)) }
     ensures keeps { Keeps store.old store.new }
 {
     let Some(id) = semigroup_of(s) else {

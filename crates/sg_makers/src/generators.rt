@@ -1,6 +1,7 @@
 //! The semigroup that numbers generate.
 
 ghost use Rattle.std.specs.Prelude.{◌≡◌, ◌↔◌, IsTrue, IfOk, MatchOption, Some, None, slice_get};
+ghost use Rattle.sg_value.specs.Known.{named};
 ghost use Rattle.sg_value.specs.Plain.{contents_of_all, plain_of_all};
 ghost use Rattle.sg_store.specs.Interned.{Keeps};
 ghost use Rattle.sg_rows.specs.Kinds.{spread, given, sole, entries_alone};
@@ -65,7 +66,7 @@ pub fn numerical_semigroup_of(
     store: &mut Store,
     args: &[Value],
 ) -> Result<Value, CallFault>
-    ensures reply { Replies result store.new (given (spread (plain_of_all (slice_get store.old) args.now)) semigroup_of) }
+    ensures reply { Replies result store.new (given (spread (plain_of_all (named store.old) args.now)) semigroup_of) }
     ensures keeps { Keeps store.old store.new }
 {
     let Some(zs) = spread_of(alloc, args)? else {

@@ -1,6 +1,7 @@
 //! Semigroups by a list of integers.
 
 ghost use Rattle.std.specs.Prelude.{◌↔◌, IsTrue, slice_get};
+ghost use Rattle.sg_value.specs.Known.{named};
 ghost use Rattle.sg_value.specs.Plain.{plain};
 ghost use Rattle.sg_store.specs.Interned.{Keeps};
 ghost use Rattle.sg_rows.specs.Replies.{Replies};
@@ -78,7 +79,7 @@ fn by_fundamental_gaps(alloc: Global, store: &mut Store, zs: &[i64]) -> Result<V
 /// WrongType where the argument is no list of integers; BadArgument where an entry is below 1, or those naturals are no
 /// numerical semigroup; then TooLarge where it is not fit for a table.
 pub fn by_gaps_of(alloc: Global, store: &mut Store, l: &Value) -> Result<Value, CallFault>
-    ensures reply { Replies result store.new (by_gaps_of (plain (slice_get store.old) l.now)) }
+    ensures reply { Replies result store.new (by_gaps_of (plain (named store.old) l.now)) }
     ensures keeps { Keeps store.old store.new }
 {
     let zs = list_of_integers(alloc, l)?;
@@ -91,7 +92,7 @@ pub fn by_gaps_of(alloc: Global, store: &mut Store, l: &Value) -> Result<Value, 
 /// WrongType where the argument is no list of integers; BadArgument where the list is empty, an entry is negative, 0 is
 /// missing, or that set is not closed under sums; then TooLarge where the semigroup is not fit for a table.
 pub fn by_small_elements_of(alloc: Global, store: &mut Store, l: &Value) -> Result<Value, CallFault>
-    ensures reply { Replies result store.new (by_small_elements_of (plain (slice_get store.old) l.now)) }
+    ensures reply { Replies result store.new (by_small_elements_of (plain (named store.old) l.now)) }
     ensures keeps { Keeps store.old store.new }
 {
     let zs = list_of_integers(alloc, l)?;
@@ -104,7 +105,7 @@ pub fn by_small_elements_of(alloc: Global, store: &mut Store, l: &Value) -> Resu
 /// WrongType where the argument is no list of integers; BadArgument where the list is no Apery list; then TooLarge where
 /// the semigroup is not fit for a table.
 pub fn by_apery_list_of(alloc: Global, store: &mut Store, l: &Value) -> Result<Value, CallFault>
-    ensures reply { Replies result store.new (by_apery_list_of (plain (slice_get store.old) l.now)) }
+    ensures reply { Replies result store.new (by_apery_list_of (plain (named store.old) l.now)) }
     ensures keeps { Keeps store.old store.new }
 {
     let zs = list_of_integers(alloc, l)?;
@@ -122,7 +123,7 @@ pub fn by_fundamental_gaps_of(
     store: &mut Store,
     l: &Value,
 ) -> Result<Value, CallFault>
-    ensures reply { Replies result store.new (by_fundamental_gaps_of (plain (slice_get store.old) l.now)) }
+    ensures reply { Replies result store.new (by_fundamental_gaps_of (plain (named store.old) l.now)) }
     ensures keeps { Keeps store.old store.new }
 {
     let zs = list_of_integers(alloc, l)?;

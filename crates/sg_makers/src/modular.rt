@@ -1,6 +1,8 @@
 //! Modular and proportionally modular semigroups.
 
 ghost use Rattle.std.specs.Prelude.{slice_get};
+ghost use Rattle.sg_value.specs.Data.{semigroups};
+ghost use Rattle.sg_value.specs.Known.{named};
 ghost use Rattle.sg_value.specs.Plain.{plain};
 ghost use Rattle.sg_store.specs.Interned.{Keeps};
 ghost use Rattle.sg_rows.specs.Replies.{Replies};
@@ -61,7 +63,7 @@ pub fn modular_of(
     a: &Value,
     b: &Value,
 ) -> Result<Value, CallFault>
-    ensures reply { Replies result store.new (modular_of (plain (slice_get store.old) a.now) (plain (slice_get store.old) b.now)) }
+    ensures reply { Replies result store.new (modular_of (plain (named store.old) a.now) (plain (named store.old) b.now)) }
     ensures keeps { Keeps store.old store.new }
 {
     let Some(factor) = integer_of(a) else {
@@ -85,7 +87,7 @@ pub fn proportional_of(
     b: &Value,
     c: &Value,
 ) -> Result<Value, CallFault>
-    ensures reply { Replies result store.new (proportional_of (plain (slice_get store.old) a.now) (plain (slice_get store.old) b.now) (plain (slice_get store.old) c.now)) }
+    ensures reply { Replies result store.new (proportional_of (plain (named store.old) a.now) (plain (named store.old) b.now) (plain (named store.old) c.now)) }
     ensures keeps { Keeps store.old store.new }
 {
     let Some(factor) = integer_of(a) else {

@@ -1,6 +1,7 @@
 //! Each public call once, with ample memory.
 
 ghost use Rattle.std.specs.Prelude.{IfOk, slice_get};
+ghost use Rattle.sg_value.specs.Known.{named};
 ghost use Rattle.sg_value.specs.Plain.{AllKnown};
 ghost use Rattle.sg_store.specs.Interned.{Keeps};
 
@@ -25,7 +26,7 @@ fn list_of(alloc: Global, entries: &[i64]) -> Result<Value, AllocError> {
 
 /// The semigroup that integers generate.
 fn generated(alloc: Global, store: &mut Store, entries: &[i64]) -> Result<Value, CallFault>
-    ensures known { IfOk result (AllKnown (slice_get store.new)) }
+    ensures known { IfOk result (AllKnown (named store.new)) }
     ensures keeps { Keeps store.old store.new }
 {
     numerical_semigroup_of(alloc, store, &[list_of(alloc, entries)?])

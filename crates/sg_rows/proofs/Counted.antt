@@ -1,7 +1,7 @@
 -- Calls with a known number of arguments.
-use Rattle.std.proofs.Common.{◌≡◌, ℕ, List, [], ◌∷◌, length, get_or, ap, ◌∙◌, arith}
+use Rattle.std.proofs.Common.{◌≡◌, List, [], ◌∷◌, length, get_or, ap, ◌∙◌, arith}
 use Rattle.sg_value.specs.Data.{Items, none, item}
-use Rattle.sg_value.specs.Plain.{Named, plain, plain_of_all}
+use Rattle.sg_value.specs.Plain.{Named, plain, plain_of_all, Things}
 use Rattle.sg_value.specs.declared.value.Value.{Value}
 use Rattle.sg_rows.specs.Order.{Plain, Case}
 use Rattle.sg_rows.specs.Kinds.{given, sole}
@@ -29,13 +29,13 @@ at_three names (x ∷ (y ∷ (z ∷ []))) a b c f count is_a is_b is_c =
 at_three names (x ∷ (y ∷ (z ∷ (w ∷ ws)))) a b c f count is_a is_b is_c = absurd (omega arith)
 
 -- one value of two or three arguments
-pub two_one : (ds : Items (List ℕ)) (f : Plain → Plain → Case) → ((a b : Plain) → OneValue (f a b)) → OneValue (of_two ds f)
+pub two_one : (ds : Items Things) (f : Plain → Plain → Case) → ((a b : Plain) → OneValue (f a b)) → OneValue (of_two ds f)
 two_one none f h = tt
 two_one (item a none) f h = tt
 two_one (item a (item b none)) f h = h a b
 two_one (item a (item b (item c ds))) f h = tt
 
-pub three_one : (ds : Items (List ℕ)) (f : Plain → Plain → Plain → Case) → ((a b c : Plain) → OneValue (f a b c)) → OneValue (of_three ds f)
+pub three_one : (ds : Items Things) (f : Plain → Plain → Plain → Case) → ((a b c : Plain) → OneValue (f a b c)) → OneValue (of_three ds f)
 three_one none f h = tt
 three_one (item a none) f h = tt
 three_one (item a (item b none)) f h = tt

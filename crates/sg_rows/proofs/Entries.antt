@@ -1,8 +1,8 @@
 -- Lists of values from one entry on.
 use Rattle.std.proofs.Common.{◌≡◌, ◌+◌, ◌<◌, ◌≤◌, ◌↔◌, ℕ, List, length, get_or, drop, inl, inr, ◌⊎◌, ap, sym, ◌∙◌, subst}
 use Rattle.std.proofs.lemmas.List.{drop_more, drop_all}
-use Rattle.sg_value.specs.Data.{Data, item}
-use Rattle.sg_value.specs.Plain.{Named, contents, contents_of_all, plain, plain_of_all}
+use Rattle.sg_value.specs.Data.{item}
+use Rattle.sg_value.specs.Plain.{Named, contents, contents_of_all, plain, plain_of_all, Plain}
 use Rattle.sg_value.specs.declared.value.Value.{Value}
 use Rattle.sg_rows.specs.Words.{IsEntry}
 
@@ -13,7 +13,7 @@ contents_of_all-drop vs i v within is = ap contents_of_all (drop_more vs i v wit
 pub plain_of_all-drop : (names : Named) (vs : List Value) (i : ℕ) (v : Value) → i < length vs → v ≡ get_or vs i v → plain_of_all names (drop i vs) ≡ item (plain names v) (plain_of_all names (drop (i + 1) vs))
 plain_of_all-drop names vs i v within is = ap (plain_of_all names) (drop_more vs i v within) ∙ ap (λ x. item (plain names x) (plain_of_all names (drop (i + 1) vs))) (sym is)
 
-module _ (names : Named) (d : Data (List ℕ)) (vs : List Value) (i : ℕ) (v : Value) (within : i < length vs) (is : v ≡ get_or vs i v)
+module _ (names : Named) (d : Plain) (vs : List Value) (i : ℕ) (v : Value) (within : i < length vs) (is : v ≡ get_or vs i v)
     (so_far : IsEntry d (plain_of_all names (drop i vs)) ↔ IsEntry d (plain_of_all names vs)) where
   -- the entry at i is the one that is looked for
   pub entry_found : d ≡ plain names v → IsEntry d (plain_of_all names vs)
@@ -28,5 +28,5 @@ module _ (names : Named) (d : Data (List ℕ)) (vs : List Value) (i : ℕ) (v : 
       by (inr h) = h
 
 -- no entry is left
-pub entry_absent : (names : Named) (d : Data (List ℕ)) (vs : List Value) (i : ℕ) → length vs ≤ i → (IsEntry d (plain_of_all names (drop i vs)) ↔ IsEntry d (plain_of_all names vs)) → IsEntry d (plain_of_all names vs) → ⊥
+pub entry_absent : (names : Named) (d : Plain) (vs : List Value) (i : ℕ) → length vs ≤ i → (IsEntry d (plain_of_all names (drop i vs)) ↔ IsEntry d (plain_of_all names vs)) → IsEntry d (plain_of_all names vs) → ⊥
 entry_absent names d vs i past so_far h = subst (λ xs. IsEntry d (plain_of_all names xs)) (drop_all i vs past) (so_far.1 h)

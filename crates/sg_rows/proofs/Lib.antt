@@ -4,6 +4,7 @@ pub mod Spans
 pub mod Entries
 pub mod Integers
 pub mod Semigroups
+pub mod Ideals
 pub mod Arguments
 pub mod OneValue
 pub mod EqualData
@@ -15,3 +16,4 @@ pub mod Listing
 pub mod Counted
 pub mod EitherOrder
 pub mod SomeListed
+pub mod Alternating

@@ -1,9 +1,10 @@
 -- Replies that are lists of numbers or of semigroups.
-use Rattle.std.proofs.Common.{◌≡◌, ◌<◌, ◌≤◌, ℕ, ℤ, pos, List, [], ◌∷◌, length, map, Result, Ok, Err, inl, inr, refl, ap, sym, ◌∙◌, subst, slice_get, Vec, Bool, true, false, IsTrue, arith, rules}
+use Rattle.std.proofs.Common.{◌≡◌, ◌<◌, ◌≤◌, ℕ, ℤ, pos, List, [], ◌∷◌, length, map, Result, Ok, Err, inl, inr, refl, ap, sym, ◌∙◌, subst, Vec, Bool, true, false, IsTrue, arith, rules}
+use Rattle.sg_value.specs.Known.{Known, named}
 use Rattle.std.proofs.lemmas.Bool.{cases_lt}
 use Rattle.std.specs.Global.{Global}
-use Rattle.sg_value.specs.Data.{Data, int, list, semigroup, item, items_of, data_map, items_map, weight_of, weight_of_all, depth_of, depth_of_all, EachSemigroup, EachSemigroupOfAll}
-use Rattle.sg_value.specs.Plain.{contents, contents_of_all, generators_at, IsKnown}
+use Rattle.sg_value.specs.Data.{Data, int, list, semigroup, item, items_of, data_map, items_map, weight_of, weight_of_all, depth_of, depth_of_all, EachThing, EachThingOfAll, Kind}
+use Rattle.sg_value.specs.Plain.{contents, contents_of_all, thing_at, IsKnown, Things, Places}
 use Rattle.sg_value.specs.declared.value.Value.{Value, the_lemmas as value_lemmas}
 use Rattle.sg_value.specs.declared.value.Value.TheVariants as value
 use Rattle.sg_rows.specs.Order.{Plain, fits, Delivers, IsReply}
@@ -15,7 +16,7 @@ use Rattle.sg_rows.specs.declared.fault.Fault.TheVariants.{TooLarge}
 use Rattle.sg_rows.specs.declared.fault.CallFault.TheVariants.{Script}
 use Rattle.sg_rows.proofs.Replying.{delivered}
 
-module _ {A H : Type 0} (f : A → Data H) (light : (a : A) → weight_of (f a) ≡ 1) (flat : (a : A) → depth_of (f a) ≡ 0) where
+module _ {A : Type 0} {H : Kind → Type 0} (f : A → Data H) (light : (a : A) → weight_of (f a) ≡ 1) (flat : (a : A) → depth_of (f a) ≡ 0) where
   pub weight-flat : (xs : List A) → weight_of_all (items_of (map f xs)) ≡ length xs
   weight-flat [] = refl
   weight-flat (x ∷ xs) = omega (arith, light x, weight-flat xs)
@@ -33,44 +34,44 @@ module _ {A H : Type 0} (f : A → Data H) (light : (a : A) → weight_of (f a) 
   delivers_heavy xs many =
       inr ((λ n. n tt), inr ((λ deep. omega (arith, depth-flat xs)), inl (omega (arith, weight-flat xs), refl)))
 
-pub delivers_integers : (zs : List ℤ) → length zs < 4194304 → Delivers {H = List ℕ} (integer_list zs) (Ok (integer_list zs))
+pub delivers_integers : (zs : List ℤ) → length zs < 4194304 → Delivers {H = Things} (integer_list zs) (Ok (integer_list zs))
 delivers_integers zs few = delivers_flat int (λ z. refl) (λ z. refl) zs few
 
-pub delivers_heavy_integers : (zs : List ℤ) → 4194304 ≤ length zs → Delivers {H = List ℕ} (integer_list zs) (Err TooLarge)
+pub delivers_heavy_integers : (zs : List ℤ) → 4194304 ≤ length zs → Delivers {H = Things} (integer_list zs) (Err TooLarge)
 delivers_heavy_integers zs many = delivers_heavy int (λ z. refl) (λ z. refl) zs many
 
-pub delivers_naturals : (ns : List ℕ) → length ns < 4194304 → Delivers {H = List ℕ} (natural_list ns) (Ok (natural_list ns))
+pub delivers_naturals : (ns : List ℕ) → length ns < 4194304 → Delivers {H = Things} (natural_list ns) (Ok (natural_list ns))
 delivers_naturals ns few = delivers_flat (λ n. int (pos n)) (λ n. refl) (λ n. refl) ns few
 
-pub delivers_heavy_naturals : (ns : List ℕ) → 4194304 ≤ length ns → Delivers {H = List ℕ} (natural_list ns) (Err TooLarge)
+pub delivers_heavy_naturals : (ns : List ℕ) → 4194304 ≤ length ns → Delivers {H = Things} (natural_list ns) (Err TooLarge)
 delivers_heavy_naturals ns many = delivers_heavy (λ n. int (pos n)) (λ n. refl) (λ n. refl) ns many
 
-pub delivers_semigroups : (L : List (List ℕ)) → length L < 4194304 → Delivers (semigroup_list L) (Ok (semigroup_list L))
+pub delivers_semigroups : (L : List (List ℕ)) → length L < 4194304 → Delivers {H = Things} (semigroup_list L) (Ok (semigroup_list L))
 delivers_semigroups L few = delivers_flat semigroup (λ h. refl) (λ h. refl) L few
 
-pub delivers_heavy_semigroups : (L : List (List ℕ)) → 4194304 ≤ length L → Delivers (semigroup_list L) (Err TooLarge)
+pub delivers_heavy_semigroups : (L : List (List ℕ)) → 4194304 ≤ length L → Delivers {H = Things} (semigroup_list L) (Err TooLarge)
 delivers_heavy_semigroups L many = delivers_heavy semigroup (λ h. refl) (λ h. refl) L many
 
 -- what is plain has the same integers
-integers_kept : {H K : Type 0} (f : H → K) (zs : List ℤ) → items_map f (items_of (map int zs)) ≡ items_of (map int zs)
+integers_kept : {H K : Kind → Type 0} (f : (k : Kind) → H k → K k) (zs : List ℤ) → items_map f (items_of (map int zs)) ≡ items_of (map int zs)
 integers_kept f [] = refl
 integers_kept f (z ∷ zs) = ap (item (int z)) (integers_kept f zs)
 
-pub plain_integers : {H K : Type 0} (f : H → K) (zs : List ℤ) → data_map f (integer_list zs) ≡ integer_list zs
+pub plain_integers : {H K : Kind → Type 0} (f : (k : Kind) → H k → K k) (zs : List ℤ) → data_map f (integer_list zs) ≡ integer_list zs
 plain_integers f zs = ap list (integers_kept f zs)
 
-naturals_kept : {H K : Type 0} (f : H → K) (ns : List ℕ) → items_map f (items_of (map (λ n. int (pos n)) ns)) ≡ items_of (map (λ n. int (pos n)) ns)
+naturals_kept : {H K : Kind → Type 0} (f : (k : Kind) → H k → K k) (ns : List ℕ) → items_map f (items_of (map (λ n. int (pos n)) ns)) ≡ items_of (map (λ n. int (pos n)) ns)
 naturals_kept f [] = refl
 naturals_kept f (n ∷ ns) = ap (item (int (pos n))) (naturals_kept f ns)
 
-pub plain_naturals : {H K : Type 0} (f : H → K) (ns : List ℕ) → data_map f (natural_list ns) ≡ natural_list ns
+pub plain_naturals : {H K : Kind → Type 0} (f : (k : Kind) → H k → K k) (ns : List ℕ) → data_map f (natural_list ns) ≡ natural_list ns
 plain_naturals f ns = ap list (naturals_kept f ns)
 
-integers_known : (P : ℕ → Type 0) (zs : List ℤ) → EachSemigroupOfAll P (items_of (map int zs))
+integers_known : (P : (k : Kind) → Places k → Type 0) (zs : List ℤ) → EachThingOfAll P (items_of (map int zs))
 integers_known P [] = tt
 integers_known P (z ∷ zs) = (tt, integers_known P zs)
 
-naturals_known : (P : ℕ → Type 0) (ns : List ℕ) → EachSemigroupOfAll P (items_of (map (λ n. int (pos n)) ns))
+naturals_known : (P : (k : Kind) → Places k → Type 0) (ns : List ℕ) → EachThingOfAll P (items_of (map (λ n. int (pos n)) ns))
 naturals_known P [] = tt
 naturals_known P (n ∷ ns) = (tt, naturals_known P ns)
 
@@ -79,25 +80,25 @@ exact : (x : Plain) (r : Result Plain Fault) → Delivers x r → IsReply (fits 
 exact x r h = delivered (answers (λ d. d ≡ x)) x r (record { size = λ n. n; bad = λ n. n; limit = λ n. n; many = λ n. n; budget = λ n. n }) refl h
 
 -- a list of integers as the reply
-pub replies_integers : (store : List (List ℕ)) (zs : List ℤ) (v : Value) → contents v ≡ integer_list zs → length zs < 4194304 → Replies (Ok v) store (fits (answers (λ d. d ≡ integer_list zs)))
+pub replies_integers : (store : Known) (zs : List ℤ) (v : Value) → contents v ≡ integer_list zs → length zs < 4194304 → Replies (Ok v) store (fits (answers (λ d. d ≡ integer_list zs)))
 replies_integers store zs v is few = (
-  subst (λ d. IsReply (fits (answers (λ e. e ≡ integer_list zs))) (Ok d)) (sym (ap (data_map (generators_at (slice_get store))) is ∙ plain_integers (generators_at (slice_get store)) zs))
+  subst (λ d. IsReply (fits (answers (λ e. e ≡ integer_list zs))) (Ok d)) (sym (ap (data_map (thing_at (named store))) is ∙ plain_integers (thing_at (named store)) zs))
       (exact (integer_list zs) (Ok (integer_list zs)) (delivers_integers zs few)),
-  subst (EachSemigroup (IsKnown (slice_get store))) (sym is) (integers_known (IsKnown (slice_get store)) zs),
+  subst (EachThing (IsKnown (named store))) (sym is) (integers_known (IsKnown (named store)) zs),
 )
 
-pub replies_heavy_integers : (store : List (List ℕ)) (zs : List ℤ) → 4194304 ≤ length zs → Replies (Err (Script TooLarge)) store (fits (answers (λ d. d ≡ integer_list zs)))
+pub replies_heavy_integers : (store : Known) (zs : List ℤ) → 4194304 ≤ length zs → Replies (Err (Script TooLarge)) store (fits (answers (λ d. d ≡ integer_list zs)))
 replies_heavy_integers store zs many = exact (integer_list zs) (Err TooLarge) (delivers_heavy_integers zs many)
 
 -- a list of naturals as the reply
-pub replies_naturals : (store : List (List ℕ)) (ns : List ℕ) (v : Value) → contents v ≡ natural_list ns → length ns < 4194304 → Replies (Ok v) store (fits (answers (λ d. d ≡ natural_list ns)))
+pub replies_naturals : (store : Known) (ns : List ℕ) (v : Value) → contents v ≡ natural_list ns → length ns < 4194304 → Replies (Ok v) store (fits (answers (λ d. d ≡ natural_list ns)))
 replies_naturals store ns v is few = (
-  subst (λ d. IsReply (fits (answers (λ e. e ≡ natural_list ns))) (Ok d)) (sym (ap (data_map (generators_at (slice_get store))) is ∙ plain_naturals (generators_at (slice_get store)) ns))
+  subst (λ d. IsReply (fits (answers (λ e. e ≡ natural_list ns))) (Ok d)) (sym (ap (data_map (thing_at (named store))) is ∙ plain_naturals (thing_at (named store)) ns))
       (exact (natural_list ns) (Ok (natural_list ns)) (delivers_naturals ns few)),
-  subst (EachSemigroup (IsKnown (slice_get store))) (sym is) (naturals_known (IsKnown (slice_get store)) ns),
+  subst (EachThing (IsKnown (named store))) (sym is) (naturals_known (IsKnown (named store)) ns),
 )
 
-pub replies_heavy_naturals : (store : List (List ℕ)) (ns : List ℕ) → 4194304 ≤ length ns → Replies (Err (Script TooLarge)) store (fits (answers (λ d. d ≡ natural_list ns)))
+pub replies_heavy_naturals : (store : Known) (ns : List ℕ) → 4194304 ≤ length ns → Replies (Err (Script TooLarge)) store (fits (answers (λ d. d ≡ natural_list ns)))
 replies_heavy_naturals store ns many = exact (natural_list ns) (Err TooLarge) (delivers_heavy_naturals ns many)
 
 pub contents-List : (vs : Vec Value Global) → contents (value.List vs) ≡ list (contents_of_all vs.items)

@@ -1,7 +1,8 @@
 -- How large plain lists are, and lists as replies.
-use Rattle.std.proofs.Common.{◌≡◌, ◌<◌, ◌≤◌, ◌+◌, ℕ, suc, max, List, Ok, Err, Vec, Global, slice_get, inl, inr, refl, ap, ap₂, sym, ◌∙◌, subst, arith}
-use Rattle.sg_value.specs.Data.{Data, int, truth, text, list, fail, semigroup, Items, none, item, data_map, items_map, depth_of, depth_of_all, weight_of, weight_of_all, EachSemigroup}
-use Rattle.sg_value.specs.Plain.{AllKnownIn, IsKnown, plain, plain_of_all, generators_at}
+use Rattle.std.proofs.Common.{◌≡◌, ◌<◌, ◌≤◌, ◌+◌, suc, max, Ok, Err, Vec, Global, inl, inr, refl, ap, ap₂, sym, ◌∙◌, subst, arith}
+use Rattle.sg_value.specs.Known.{Known, named}
+use Rattle.sg_value.specs.Data.{Data, int, truth, text, list, fail, semigroup, ideal, Items, none, item, data_map, items_map, depth_of, depth_of_all, weight_of, weight_of_all, EachThing, Kind}
+use Rattle.sg_value.specs.Plain.{AllKnownIn, IsKnown, plain, plain_of_all, thing_at, Things}
 use Rattle.sg_value.specs.declared.value.Value.{Value}
 use Rattle.sg_value.specs.declared.value.Value.TheVariants as value
 use Rattle.sg_rows.specs.Order.{Row, fits, IsReply}
@@ -12,45 +13,47 @@ use Rattle.sg_rows.proofs.Replying.{Passes, delivered}
 use Rattle.sg_rows.proofs.Listing.{contents-List}
 
 mutual
-  pub depth_of-map : {H K : Type 0} (f : H → K) (d : Data H) → depth_of (data_map f d) ≡ depth_of d
+  pub depth_of-map : {H K : Kind → Type 0} (f : (k : Kind) → H k → K k) (d : Data H) → depth_of (data_map f d) ≡ depth_of d
   depth_of-map f (int z) = refl
   depth_of-map f (truth b) = refl
   depth_of-map f (text bs) = refl
   depth_of-map f (list ds) = ap suc (depth_of_all-map f ds)
   depth_of-map f fail = refl
   depth_of-map f (semigroup h) = refl
+  depth_of-map f (ideal h) = refl
 
-  pub depth_of_all-map : {H K : Type 0} (f : H → K) (ds : Items H) → depth_of_all (items_map f ds) ≡ depth_of_all ds
+  pub depth_of_all-map : {H K : Kind → Type 0} (f : (k : Kind) → H k → K k) (ds : Items H) → depth_of_all (items_map f ds) ≡ depth_of_all ds
   depth_of_all-map f none = refl
   depth_of_all-map f (item d ds) = ap₂ max (depth_of-map f d) (depth_of_all-map f ds)
 
 mutual
-  pub weight_of-map : {H K : Type 0} (f : H → K) (d : Data H) → weight_of (data_map f d) ≡ weight_of d
+  pub weight_of-map : {H K : Kind → Type 0} (f : (k : Kind) → H k → K k) (d : Data H) → weight_of (data_map f d) ≡ weight_of d
   weight_of-map f (int z) = refl
   weight_of-map f (truth b) = refl
   weight_of-map f (text bs) = refl
   weight_of-map f (list ds) = ap suc (weight_of_all-map f ds)
   weight_of-map f fail = refl
   weight_of-map f (semigroup h) = refl
+  weight_of-map f (ideal h) = refl
 
-  pub weight_of_all-map : {H K : Type 0} (f : H → K) (ds : Items H) → weight_of_all (items_map f ds) ≡ weight_of_all ds
+  pub weight_of_all-map : {H K : Kind → Type 0} (f : (k : Kind) → H k → K k) (ds : Items H) → weight_of_all (items_map f ds) ≡ weight_of_all ds
   weight_of_all-map f none = refl
   weight_of_all-map f (item d ds) = ap₂ (λ m n. m + n) (weight_of-map f d) (weight_of_all-map f ds)
 
 -- a list as the reply, where it is within the limits
-pub replies_list : (store : List (List ℕ)) (row : Row) (ds : Items (List ℕ)) (vs : Vec Value Global) → Passes row → row.value (list ds) → plain_of_all (slice_get store) vs.items ≡ ds
-    → depth_of_all ds ≤ 63 → weight_of_all ds < 4194304 → AllKnownIn (slice_get store) vs.items → Replies (Ok (value.List vs)) store (fits row)
+pub replies_list : (store : Known) (row : Row) (ds : Items Things) (vs : Vec Value Global) → Passes row → row.value (list ds) → plain_of_all (named store) vs.items ≡ ds
+    → depth_of_all ds ≤ 63 → weight_of_all ds < 4194304 → AllKnownIn (named store) vs.items → Replies (Ok (value.List vs)) store (fits row)
 replies_list store row ds vs passes h is shallow light known =
-    let seen : plain (slice_get store) (value.List vs) ≡ list ds = ap (data_map (generators_at (slice_get store))) (contents-List vs) ∙ ap list is in (
+    let seen : plain (named store) (value.List vs) ≡ list ds = ap (data_map (thing_at (named store))) (contents-List vs) ∙ ap list is in (
       subst (λ d. IsReply (fits row) (Ok d)) (sym seen) (delivered row (list ds) (Ok (list ds)) passes h (inr ((λ f. f tt), inr ((λ deep. absurd (omega (arith, shallow, deep))), inr ((λ heavy. absurd (omega (arith, light, heavy))), refl))))),
-      subst (EachSemigroup (IsKnown (slice_get store))) (sym (contents-List vs)) known,
+      subst (EachThing (IsKnown (named store))) (sym (contents-List vs)) known,
     )
 
 -- the list nests too deep
-pub replies_deep : (store : List (List ℕ)) (row : Row) (ds : Items (List ℕ)) → Passes row → row.value (list ds) → 63 < depth_of_all ds → Replies (Err (Script Depth)) store (fits row)
+pub replies_deep : (store : Known) (row : Row) (ds : Items Things) → Passes row → row.value (list ds) → 63 < depth_of_all ds → Replies (Err (Script Depth)) store (fits row)
 replies_deep store row ds passes h deep = delivered row (list ds) (Err Depth) passes h (inr ((λ f. f tt), inl (omega (arith, deep), refl)))
 
 -- the list is too heavy
-pub replies_heavy : (store : List (List ℕ)) (row : Row) (ds : Items (List ℕ)) → Passes row → row.value (list ds) → depth_of_all ds ≤ 63 → 4194304 ≤ weight_of_all ds → Replies (Err (Script TooLarge)) store (fits row)
+pub replies_heavy : (store : Known) (row : Row) (ds : Items Things) → Passes row → row.value (list ds) → depth_of_all ds ≤ 63 → 4194304 ≤ weight_of_all ds → Replies (Err (Script TooLarge)) store (fits row)
 replies_heavy store row ds passes h shallow heavy =
     delivered row (list ds) (Err TooLarge) passes h (inr ((λ f. f tt), inr ((λ deep. absurd (omega (arith, shallow, deep))), inl (omega (arith, heavy), refl))))

@@ -1,6 +1,6 @@
 -- A row that has one value has one reply.
 use Rattle.std.proofs.Common.{◌≡◌, ◌↔◌, ℕ, ℤ, Bool, true, false, IsTrue, List, Option, Some, None, Result, Ok, inl, inr, refl, ap, sym, ◌∙◌, subst}
-use Rattle.sg_value.specs.Data.{Data, int, truth, semigroup}
+use Rattle.sg_value.specs.Data.{Data, int, truth, semigroup, Kind}
 use Rattle.sg_defs.specs.Membership.{Generates}
 use Rattle.sg_apery.proofs.OneListLemmas.{one-minimal_list}
 use Rattle.sg_rows.specs.Order.{Plain, Case, unfit, fits, Checks, passed, check, FirstOf, value_checks, named_checks, Delivers, IsReply}
@@ -17,7 +17,7 @@ first_one (check c e more) rest one r s (inl p) (inr q) = absurd (q.0 p.0)
 first_one (check c e more) rest one r s (inr p) (inl q) = absurd (p.0 q.0)
 first_one (check c e more) rest one r s (inr p) (inr q) = first_one more rest one r s p.1 q.1
 
-pub delivers_one : {H : Type 0} (d : Data H) → One (Delivers d)
+pub delivers_one : {H : Kind → Type 0} (d : Data H) → One (Delivers d)
 delivers_one d = first_one (value_checks d) (λ s. s ≡ Ok d) (λ r s p q. p ∙ sym q)
 
 -- the row of a case has at most one value

@@ -1,13 +1,14 @@
 -- Replies of rows.
-use Rattle.std.proofs.Common.{◌≡◌, ◌↔◌, ℕ, ℤ, Bool, true, false, not, IsTrue, List, Result, Ok, Err, slice_get, inl, inr, refl, ap, sym, subst, arith, rules}
+use Rattle.std.proofs.Common.{◌≡◌, ◌↔◌, ℤ, Bool, true, false, not, IsTrue, Result, Ok, Err, inl, inr, refl, ap, sym, subst, arith, rules}
+use Rattle.sg_value.specs.Known.{Known, named}
 use Rattle.std.specs.Prelude.{FitsSigned}
 use Rattle.std.specs.Int.{w64}
-use Rattle.sg_value.specs.Data.{Data, int, truth, text, list, fail, semigroup, data_map, items_map, EachSemigroup}
-use Rattle.sg_value.specs.Plain.{contents, plain, generators_at, IsKnown}
+use Rattle.sg_value.specs.Data.{Data, int, truth, text, list, fail, semigroup, ideal, data_map, items_map, EachThing, Kind, semigroups, ideals}
+use Rattle.sg_value.specs.Plain.{contents, plain, thing_at, IsKnown, Things}
 use Rattle.sg_value.specs.declared.value.Value.{Value, the_lemmas as value_lemmas}
 use Rattle.sg_value.specs.declared.value.Value.TheVariants as value
 use Rattle.sg_rows.specs.Order.{Plain, Reply, Row, fits, Checks, passed, check, FirstOf, Delivers, IsReply}
-use Rattle.sg_rows.specs.Kinds.{as_integer, as_list, as_semigroup, answers, whether}
+use Rattle.sg_rows.specs.Kinds.{as_integer, as_list, as_semigroup, as_ideal, answers, whether}
 use Rattle.std.specs.Option.{option_map}
 use Rattle.sg_rows.specs.Replies.{Replies}
 use Rattle.sg_rows.specs.declared.fault.Fault.{Fault}
@@ -36,68 +37,80 @@ pub delivered : (row : Row) (d : Plain) (r : Reply) → Passes row → row.value
 delivered row d r p h g = inr (p.size, inr (p.bad, inr (p.limit, inr (p.many, inr (p.budget, (d, h, g))))))
 
 -- a single value in bounds is delivered
-pub delivers_integer : (z : ℤ) → FitsSigned w64 z → Delivers {H = List ℕ} (int z) (Ok (int z))
+pub delivers_integer : (z : ℤ) → FitsSigned w64 z → Delivers {H = Things} (int z) (Ok (int z))
 delivers_integer z fit = inr ((λ f. f fit), inr ((λ deep. absurd (omega arith)), inr ((λ heavy. absurd (omega arith)), refl)))
 
-pub delivers_truth : (b : Bool) → Delivers {H = List ℕ} (truth b) (Ok (truth b))
+pub delivers_truth : (b : Bool) → Delivers {H = Things} (truth b) (Ok (truth b))
 delivers_truth b = inr ((λ f. f tt), inr ((λ deep. absurd (omega arith)), inr ((λ heavy. absurd (omega arith)), refl)))
 
 pub answers_pass : (P : Plain → Type 0) → Passes (answers P)
 answers_pass P = record { size = no; bad = no; limit = no; many = no; budget = no }
 
 -- a value without semigroups is the same over every store
-pub plain_integer : (store : List (List ℕ)) (v : Value) (z : ℤ) → contents v ≡ int z → plain (slice_get store) v ≡ int z
-plain_integer store v z h = ap (data_map (generators_at (slice_get store))) h
+pub plain_integer : (store : Known) (v : Value) (z : ℤ) → contents v ≡ int z → plain (named store) v ≡ int z
+plain_integer store v z h = ap (data_map (thing_at (named store))) h
 
-pub plain_truth : (store : List (List ℕ)) (v : Value) (b : Bool) → contents v ≡ truth b → plain (slice_get store) v ≡ truth b
-plain_truth store v b h = ap (data_map (generators_at (slice_get store))) h
+pub plain_truth : (store : Known) (v : Value) (b : Bool) → contents v ≡ truth b → plain (named store) v ≡ truth b
+plain_truth store v b h = ap (data_map (thing_at (named store))) h
 
 -- an integer as the reply
-pub replies_integer : (store : List (List ℕ)) (row : Row) (z : ℤ) (v : Value) → contents v ≡ int z → FitsSigned w64 z → Passes row → row.value (int z) → Replies (Ok v) store (fits row)
+pub replies_integer : (store : Known) (row : Row) (z : ℤ) (v : Value) → contents v ≡ int z → FitsSigned w64 z → Passes row → row.value (int z) → Replies (Ok v) store (fits row)
 replies_integer store row z v is fit p h = (
   subst (λ d. IsReply (fits row) (Ok d)) (sym (plain_integer store v z is)) (delivered row (int z) (Ok (int z)) p h (delivers_integer z fit)),
-  subst (λ d. EachSemigroup (IsKnown (slice_get store)) d) (sym is) tt,
+  subst (λ d. EachThing (IsKnown (named store)) d) (sym is) tt,
 )
 
 -- an integer outside of 64 bits
-pub replies_overflow : (store : List (List ℕ)) (row : Row) (z : ℤ) → (¬ FitsSigned w64 z) → Passes row → row.value (int z) → Replies (Err (Script Overflow)) store (fits row)
+pub replies_overflow : (store : Known) (row : Row) (z : ℤ) → (¬ FitsSigned w64 z) → Passes row → row.value (int z) → Replies (Err (Script Overflow)) store (fits row)
 replies_overflow store row z out p h = delivered row (int z) (Err Overflow) p h (inl (out, refl))
 
 -- a truth value as the reply
-pub replies_truth : (store : List (List ℕ)) (b : Bool) (v : Value) (P : Type 0) → contents v ≡ truth b → (IsTrue b ↔ P) → Replies (Ok v) store (fits (answers (whether P)))
+pub replies_truth : (store : Known) (b : Bool) (v : Value) (P : Type 0) → contents v ≡ truth b → (IsTrue b ↔ P) → Replies (Ok v) store (fits (answers (whether P)))
 replies_truth store b v P is h = (
   subst (λ d. IsReply (fits (answers (whether P))) (Ok d)) (sym (plain_truth store v b is)) (delivered (answers (whether P)) (truth b) (Ok (truth b)) (answers_pass (whether P)) (b, refl, h) (delivers_truth b)),
-  subst (λ d. EachSemigroup (IsKnown (slice_get store)) d) (sym is) tt,
+  subst (λ d. EachThing (IsKnown (named store)) d) (sym is) tt,
 )
 
 -- a condition of the row that holds first
-pub replies_bad : (store : List (List ℕ)) (row : Row) → (¬ row.size) → row.bad → Replies (Err (Script BadArgument)) store (fits row)
+pub replies_bad : (store : Known) (row : Row) → (¬ row.size) → row.bad → Replies (Err (Script BadArgument)) store (fits row)
 replies_bad store row small bad = inr (small, inl (bad, refl))
 
 -- what is plain is of the same kind
-pub as_integer-plain : {H K : Type 0} (f : H → K) (d : Data H) → as_integer (data_map f d) ≡ as_integer d
+pub as_integer-plain : {H K : Kind → Type 0} (f : (k : Kind) → H k → K k) (d : Data H) → as_integer (data_map f d) ≡ as_integer d
 as_integer-plain f (int z) = refl
 as_integer-plain f (truth b) = refl
 as_integer-plain f (text bs) = refl
 as_integer-plain f (list ds) = refl
 as_integer-plain f fail = refl
 as_integer-plain f (semigroup h) = refl
+as_integer-plain f (ideal h) = refl
 
-pub as_list-plain : {H K : Type 0} (f : H → K) (d : Data H) → as_list (data_map f d) ≡ option_map (items_map f) (as_list d)
+pub as_list-plain : {H K : Kind → Type 0} (f : (k : Kind) → H k → K k) (d : Data H) → as_list (data_map f d) ≡ option_map (items_map f) (as_list d)
 as_list-plain f (int z) = refl
 as_list-plain f (truth b) = refl
 as_list-plain f (text bs) = refl
 as_list-plain f (list ds) = refl
 as_list-plain f fail = refl
 as_list-plain f (semigroup h) = refl
+as_list-plain f (ideal h) = refl
 
-pub as_semigroup-plain : {H K : Type 0} (f : H → K) (d : Data H) → as_semigroup (data_map f d) ≡ option_map f (as_semigroup d)
+pub as_semigroup-plain : {H K : Kind → Type 0} (f : (k : Kind) → H k → K k) (d : Data H) → as_semigroup (data_map f d) ≡ option_map (f semigroups) (as_semigroup d)
 as_semigroup-plain f (int z) = refl
 as_semigroup-plain f (truth b) = refl
 as_semigroup-plain f (text bs) = refl
 as_semigroup-plain f (list ds) = refl
 as_semigroup-plain f fail = refl
 as_semigroup-plain f (semigroup h) = refl
+as_semigroup-plain f (ideal h) = refl
+
+pub as_ideal-plain : {H K : Kind → Type 0} (f : (k : Kind) → H k → K k) (d : Data H) → as_ideal (data_map f d) ≡ option_map (f ideals) (as_ideal d)
+as_ideal-plain f (int z) = refl
+as_ideal-plain f (truth b) = refl
+as_ideal-plain f (text bs) = refl
+as_ideal-plain f (list ds) = refl
+as_ideal-plain f fail = refl
+as_ideal-plain f (semigroup h) = refl
+as_ideal-plain f (ideal h) = refl
 
 -- a test turned round
 pub decides_not : (b : Bool) (P : Type 0) → (IsTrue b ↔ P) → IsTrue (not b) ↔ (P → ⊥)
@@ -119,18 +132,18 @@ reply_in x row r p h reply =
     let five = passed_by ⊥ Budget passed rest r no (passed_by ⊥ TooMany budget rest r no (passed_by ⊥ TooLarge many rest r no (passed_by ⊥ BadArgument limit rest r no (passed_by ⊥ TooLarge bad rest r no reply)))) in
     delivered row x r p h (subst (λ d. Delivers d r) five.1 five.2)
 
-pub replies_in : (store : List (List ℕ)) (r : Result Value CallFault) (x : Plain) (row : Row) → Passes row → row.value x → Replies r store (fits (answers (λ d. d ≡ x))) → Replies r store (fits row)
-replies_in store (Ok v) x row p h reply = (reply_in x row (Ok (plain (slice_get store) v)) p h reply.0, reply.1)
+pub replies_in : (store : Known) (r : Result Value CallFault) (x : Plain) (row : Row) → Passes row → row.value x → Replies r store (fits (answers (λ d. d ≡ x))) → Replies r store (fits row)
+replies_in store (Ok v) x row p h reply = (reply_in x row (Ok (plain (named store) v)) p h reply.0, reply.1)
 replies_in store (Err (Script e)) x row p h reply = reply_in x row (Err e) p h reply
 replies_in store (Err (Memory e)) x row p h reply = tt
 
 -- a limit of the row is passed
-pub replies_limit : (store : List (List ℕ)) (row : Row) → (¬ row.size) → (¬ row.bad) → row.limit → Replies (Err (Script TooLarge)) store (fits row)
+pub replies_limit : (store : Known) (row : Row) → (¬ row.size) → (¬ row.bad) → row.limit → Replies (Err (Script TooLarge)) store (fits row)
 replies_limit store row small good wide = inr (small, inr (good, inl (wide, refl)))
 
 -- a truth value of a row that may refuse something
-pub replies_truth_in : (store : List (List ℕ)) (row : Row) (b : Bool) (v : Value) → contents v ≡ truth b → Passes row → row.value (truth b) → Replies (Ok v) store (fits row)
+pub replies_truth_in : (store : Known) (row : Row) (b : Bool) (v : Value) → contents v ≡ truth b → Passes row → row.value (truth b) → Replies (Ok v) store (fits row)
 replies_truth_in store row b v is p h = (
   subst (λ d. IsReply (fits row) (Ok d)) (sym (plain_truth store v b is)) (delivered row (truth b) (Ok (truth b)) p h (delivers_truth b)),
-  subst (λ d. EachSemigroup (IsKnown (slice_get store)) d) (sym is) tt,
+  subst (λ d. EachThing (IsKnown (named store)) d) (sym is) tt,
 )

@@ -1,6 +1,7 @@
 -- Rows of two and three arguments, of lists as values, and of limits on the span have a value.
-use Rattle.std.proofs.Common.{◌≡◌, ℕ, ℤ, pos, List, [], ◌∷◌, Option, Some, None, map, inl, inr, refl}
-use Rattle.std.specs.Prelude.{IfSome, All, ⊤}
+use Rattle.std.proofs.Common.{◌≡◌, ℕ, ℤ, pos, List, [], ◌∷◌, Option, Some, None, map, inr, refl}
+use Rattle.sg_value.specs.Plain.{Things}
+use Rattle.std.specs.Prelude.{IfSome, All}
 use Rattle.std.proofs.lemmas.List.Elements.{All-head, All-tail}
 use Rattle.sg_defs.specs.Membership.{IsNumericalSemigroup}
 use Rattle.sg_apery.specs.declared.limits.TheConstants.{SPAN_LIMIT}
@@ -17,13 +18,13 @@ use Rattle.sg_rows.proofs.SomeValue.{SomeValue, HasLawful, as_semigroup_lawful}
 
 -- ---- arguments
 
-pub two_some : (ds : Items (List ℕ)) (f : Plain → Plain → Case) → AreLawful ds → ((a b : Plain) → IsLawful a → IsLawful b → SomeValue (f a b)) → SomeValue (of_two ds f)
+pub two_some : (ds : Items Things) (f : Plain → Plain → Case) → AreLawful ds → ((a b : Plain) → IsLawful a → IsLawful b → SomeValue (f a b)) → SomeValue (of_two ds f)
 two_some none f l h = tt
 two_some (item a none) f l h = tt
 two_some (item a (item b none)) f l h = h a b l.0 l.1.0
 two_some (item a (item b (item c ds))) f l h = tt
 
-pub three_some : (ds : Items (List ℕ)) (f : Plain → Plain → Plain → Case) → AreLawful ds → ((a b c : Plain) → IsLawful a → IsLawful b → IsLawful c → SomeValue (f a b c)) → SomeValue (of_three ds f)
+pub three_some : (ds : Items Things) (f : Plain → Plain → Plain → Case) → AreLawful ds → ((a b c : Plain) → IsLawful a → IsLawful b → IsLawful c → SomeValue (f a b c)) → SomeValue (of_three ds f)
 three_some none f l h = tt
 three_some (item a none) f l h = tt
 three_some (item a (item b none)) f l h = tt

@@ -1,6 +1,7 @@
 -- Where the conditions of a row are decided in turn, and a value is there where none of them holds, there is a reply.
-use Rattle.std.proofs.Common.{◌≡◌, ℕ, ℤ, ◌<◌, ◌≤◌, ◌^◌, List, [], ◌∷◌, Option, Some, None, Ok, Err, inl, inr, refl, arith}
-use Rattle.std.specs.Prelude.{◌⊎◌, pos, IfSome, FitsSigned, ⊤}
+use Rattle.std.proofs.Common.{◌≡◌, ℕ, ℤ, ◌<◌, ◌^◌, List, [], ◌∷◌, Option, Some, None, Ok, Err, inl, inr, refl}
+use Rattle.sg_value.specs.Plain.{Things}
+use Rattle.std.specs.Prelude.{pos, IfSome, FitsSigned, ⊤}
 use Rattle.std.specs.Int.{w64}
 use lib.Signed.{mag}
 use Rattle.sg_defs.specs.Membership.{Generates}
@@ -8,10 +9,10 @@ use Rattle.sg_apery.specs.Fit.{IsFit}
 use Rattle.sg_exist.specs.Decided.{Decided}
 use Rattle.sg_exist.proofs.Decisions.{decided-not, decided-lt, decided-same, truth-exists}
 use Rattle.sg_exist.proofs.SemigroupDecisions.{fit_list-or_none, unfit-decided}
-use Rattle.sg_value.specs.Data.{Data, int, truth, text, list, fail, semigroup, Items, none, item, weight_of, depth_of}
-use Rattle.sg_rows.specs.Order.{Plain, Reply, Row, Case, unfit, fits, Checks, passed, check, FirstOf, InBits, named_checks, value_checks, Delivers, IsReply}
-use Rattle.sg_rows.specs.Kinds.{given, sole, as_list, as_semigroup, answers, an_integer, a_natural, an_entry, whether, generates}
-use Rattle.sg_rows.specs.Lawful.{IsLawfulList, IsLawful, AreLawful, IsLawfulReply, SomeReply}
+use Rattle.sg_value.specs.Data.{int, truth, text, list, fail, semigroup, ideal, Items, none, item, weight_of, depth_of}
+use Rattle.sg_rows.specs.Order.{Plain, Reply, Case, unfit, fits, Checks, passed, check, FirstOf, InBits, named_checks, value_checks, Delivers, IsReply}
+use Rattle.sg_rows.specs.Kinds.{given, sole, as_list, as_semigroup, as_ideal, answers, an_integer, a_natural, an_entry, whether, generates}
+use Rattle.sg_rows.specs.Lawful.{IsLawfulList, IsLawfulIdeal, IsLawful, AreLawful, SomeReply}
 use Rattle.sg_rows.specs.declared.fault.Fault.TheVariants.{WrongType}
 
 -- each condition is decided once those before it do not hold, and where none holds the rest is there
@@ -37,6 +38,7 @@ bits-decided (text bs) = inl tt
 bits-decided (list ds) = inl tt
 bits-decided fail = inl tt
 bits-decided (semigroup h) = inl tt
+bits-decided (ideal h) = inl tt
 
 pub delivers_some : (d : Plain) → IsLawful d → SomeReply (Delivers d)
 delivers_some d lawful = first_some (value_checks d) (λ s. s ≡ Ok d)
@@ -110,18 +112,28 @@ pub any_some : {A : Type 0} (o : Option A) → IfSome o (λ a. ⊤)
 any_some None = tt
 any_some (Some a) = tt
 
-pub sole_lawful : (args : Items (List ℕ)) → AreLawful args → IfSome (sole args) IsLawful
+pub sole_lawful : (args : Items Things) → AreLawful args → IfSome (sole args) IsLawful
 sole_lawful none h = tt
 sole_lawful (item d none) h = h.0
 sole_lawful (item d (item e es)) h = tt
 
 pub as_semigroup_lawful : (d : Plain) → IsLawful d → IfSome (as_semigroup d) IsLawfulList
 as_semigroup_lawful (semigroup G) h = h
+as_semigroup_lawful (ideal G) h = tt
 as_semigroup_lawful (int z) h = tt
 as_semigroup_lawful (truth b) h = tt
 as_semigroup_lawful (text bs) h = tt
 as_semigroup_lawful (list ds) h = tt
 as_semigroup_lawful fail h = tt
+
+pub as_ideal_lawful : (d : Plain) → IsLawful d → IfSome (as_ideal d) IsLawfulIdeal
+as_ideal_lawful (ideal I) h = h
+as_ideal_lawful (semigroup G) h = tt
+as_ideal_lawful (int z) h = tt
+as_ideal_lawful (truth b) h = tt
+as_ideal_lawful (text bs) h = tt
+as_ideal_lawful (list ds) h = tt
+as_ideal_lawful fail h = tt
 
 pub as_list_lawful : (d : Plain) → IsLawful d → IfSome (as_list d) AreLawful
 as_list_lawful (list ds) h = h
@@ -130,3 +142,4 @@ as_list_lawful (truth b) h = tt
 as_list_lawful (text bs) h = tt
 as_list_lawful fail h = tt
 as_list_lawful (semigroup G) h = tt
+as_list_lawful (ideal G) h = tt

@@ -8,4 +8,5 @@ pub mod Spread
 pub mod Listed
 pub mod Limits
 pub mod Several
+pub mod Alternatives
 pub mod Pairs

@@ -1,18 +1,18 @@
 -- Lists of numbers and of semigroups as values.
 use Rattle.std.specs.Prelude.{◌≡◌, ℕ, ℤ, pos, List, map}
-use Rattle.sg_value.specs.Data.{Data, int, list, semigroup, items_of}
+use Rattle.sg_value.specs.Data.{Data, semigroups, int, list, semigroup, items_of, Kind, semigroups}
 use Rattle.sg_rows.specs.Order.{Plain}
 
 -- these integers as a list
-abbrev pub integer_list : {H : Type 0} → List ℤ → Data H
+abbrev pub integer_list : {H : Kind → Type 0} → List ℤ → Data H
 integer_list zs = list (items_of (map int zs))
 
 -- these naturals as a list
-abbrev pub natural_list : {H : Type 0} → List ℕ → Data H
+abbrev pub natural_list : {H : Kind → Type 0} → List ℕ → Data H
 natural_list ns = list (items_of (map (λ n. int (pos n)) ns))
 
 -- what stands for these semigroups, as a list
-abbrev pub semigroup_list : {H : Type 0} → List H → Data H
+abbrev pub semigroup_list : {H : Kind → Type 0} → List (H semigroups) → Data H
 semigroup_list hs = list (items_of (map semigroup hs))
 
 -- a list of integers, of which P holds

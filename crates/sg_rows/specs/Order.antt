@@ -1,13 +1,14 @@
 -- What a call answers: the first refusal that comes, or the value.
-use Rattle.std.specs.Prelude.{◌≡◌, ◌⊎◌, ℕ, ◌<◌, List, Result, Ok, Err, FitsSigned, ⊤}
+use Rattle.std.specs.Prelude.{◌≡◌, ◌⊎◌, ◌<◌, Result, Ok, Err, FitsSigned, ⊤}
+use Rattle.sg_value.specs.Plain.{Things}
 use Rattle.std.specs.Int.{w64}
-use Rattle.sg_value.specs.Data.{Data, int, truth, text, list, fail, semigroup, weight_of, depth_of}
+use Rattle.sg_value.specs.Data.{Data, int, truth, text, list, fail, semigroup, ideal, weight_of, depth_of, Kind}
 use Rattle.sg_rows.specs.declared.fault.Fault.{Fault}
 use Rattle.sg_rows.specs.declared.fault.Fault.TheVariants.{WrongType, Overflow, BadArgument, TooLarge, TooMany, Budget, Depth}
 
--- a value, with semigroups by their minimal lists
+-- a value with no store behind it: its things by what they are made of
 abbrev pub Plain : Type 0
-Plain = Data (List ℕ)
+Plain = Data Things
 
 abbrev pub Reply : Type 0
 Reply = Result Plain Fault
@@ -43,24 +44,25 @@ FirstOf passed rest r = rest r
 FirstOf (check c e more) rest r = (c × (r ≡ Err e)) ⊎ ((¬ c) × FirstOf more rest r)
 
 -- an integer is in 64 bits
-abbrev pub InBits : {H : Type 0} → Data H → Type 0
+abbrev pub InBits : {H : Kind → Type 0} → Data H → Type 0
 InBits (int z) = FitsSigned w64 z
 InBits (truth b) = ⊤
 InBits (text bs) = ⊤
 InBits (list ds) = ⊤
 InBits fail = ⊤
 InBits (semigroup h) = ⊤
+InBits (ideal h) = ⊤
 
 -- the refusals that a row names, in their order
 abbrev pub named_checks : Row → Checks
 named_checks row = check row.size TooLarge (check row.bad BadArgument (check row.limit TooLarge (check row.many TooMany (check row.budget Budget passed))))
 
 -- the refusals of every value: an integer outside of 64 bits, lists nested more than 64 deep, a weight above 4194304
-abbrev pub value_checks : {H : Type 0} → Data H → Checks
+abbrev pub value_checks : {H : Kind → Type 0} → Data H → Checks
 value_checks d = check (¬ InBits d) Overflow (check (64 < depth_of d) Depth (check (4194304 < weight_of d) TooLarge passed))
 
 -- the reply is the value that was found, or the first refusal of it
-abbrev pub Delivers : {H : Type 0} → Data H → Result (Data H) Fault → Type 0
+abbrev pub Delivers : {H : Kind → Type 0} → Data H → Result (Data H) Fault → Type 0
 Delivers d r = FirstOf (value_checks d) (λ s. s ≡ Ok d) r
 
 -- the reply is the row's value, or the first refusal

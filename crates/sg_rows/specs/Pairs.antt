@@ -1,6 +1,6 @@
 -- Two arguments in either order.
 use Rattle.std.specs.Prelude.{ℤ, Option, Some, None}
-use Rattle.sg_value.specs.Data.{Data}
+use Rattle.sg_value.specs.Data.{Data, Kind, semigroups}
 use Rattle.sg_rows.specs.Kinds.{as_integer, as_semigroup}
 
 -- both, where there are both
@@ -15,5 +15,5 @@ either None b = b
 either (Some a) b = Some a
 
 -- a semigroup and an integer, in either order
-abbrev pub semigroup_and_integer : {H : Type 0} → Data H → Data H → Option (H × ℤ)
+abbrev pub semigroup_and_integer : {H : Kind → Type 0} → Data H → Data H → Option (H semigroups × ℤ)
 semigroup_and_integer a b = either (both (as_semigroup a) (as_integer b)) (both (as_semigroup b) (as_integer a))

@@ -1,18 +1,17 @@
 -- Entries of lists of values.
 use Rattle.std.specs.Prelude.{◌≡◌, ◌⊎◌, ℕ, suc}
-use Rattle.sg_value.specs.Data.{Data, Items, none, item}
-
+use Rattle.sg_value.specs.Data.{Data, Items, none, item, Kind}
 -- how many entries there are
-abbrev pub entry_count : {H : Type 0} → Items H → ℕ
+abbrev pub entry_count : {H : Kind → Type 0} → Items H → ℕ
 entry_count none = 0
 entry_count (item d ds) = suc (entry_count ds)
 
 -- the first entries, then the second
-abbrev pub join : {H : Type 0} → Items H → Items H → Items H
+abbrev pub join : {H : Kind → Type 0} → Items H → Items H → Items H
 join none es = es
 join (item d ds) es = item d (join ds es)
 
 -- d is an entry
-abbrev pub IsEntry : {H : Type 0} → Data H → Items H → Type 0
+abbrev pub IsEntry : {H : Kind → Type 0} → Data H → Items H → Type 0
 IsEntry d none = ⊥
 IsEntry d (item e es) = (d ≡ e) ⊎ IsEntry d es

@@ -3,9 +3,9 @@
 ghost use Rattle.std.specs.Prelude.{◌≡◌, ℕ, List, Option, Some, None, map, MatchOption, FitsSigned, SomeIff};
 ghost use Rattle.sg_value.specs.Data.{truth as truth_value, list, int, items_of};
 ghost use Rattle.sg_value.specs.Plain.{contents, contents_of_all};
-ghost use Rattle.sg_rows.specs.Kinds.{as_integer, as_list, as_semigroup};
+ghost use Rattle.sg_rows.specs.Kinds.{as_integer, as_list, as_semigroup, as_ideal};
 
-use sg_value::{SemId, Value};
+use sg_value::{IdealId, SemId, Value};
 
 /// The integer, where the value is one.
 pub fn integer_of(v: &Value) -> Option<i64>
@@ -23,6 +23,16 @@ pub fn semigroup_of(v: &Value) -> Option<SemId>
 {
     match v {
         Value::Sem(id) => Some(*id),
+        _ => None,
+    }
+}
+
+/// The ideal, where the value is one.
+pub fn ideal_of(v: &Value) -> Option<IdealId>
+    ensures { result ≡ as_ideal (contents v.now) }
+{
+    match v {
+        Value::Ideal(id) => Some(*id),
         _ => None,
     }
 }

@@ -18,7 +18,7 @@ mod two_arguments;
 
 pub use fault::{CallFault, Fault};
 pub use integer_lists::{integers_of, list_of_integers};
-pub use kinds::{entries_of, integer_of, semigroup_of, truth};
+pub use kinds::{entries_of, ideal_of, integer_of, semigroup_of, truth};
 pub use limits::is_wide;
 pub use listed::{WEIGHT_LIMIT, integer_list, is_heavy, natural_list};
 pub use reply::{integer, natural};

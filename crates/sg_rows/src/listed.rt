@@ -1,6 +1,7 @@
 //! Lists of numbers as replies.
 
 ghost use Rattle.std.specs.Prelude.{◌≡◌, ◌<◌, ◌≤◌, ◌^◌, ◌↔◌, IfOk, IsTrue, ℕ, List, pos, map, EachIndex, slice_index};
+ghost use Rattle.sg_value.specs.Known.{Known};
 ghost use Rattle.sg_value.specs.Data.{int, items_of};
 ghost use Rattle.sg_value.specs.Plain.{contents_of_all};
 ghost use Rattle.sg_rows.specs.Order.{fits};
@@ -47,7 +48,7 @@ fn natural_values(alloc: Global, ns: &[u64]) -> Result<Vec<Value>, AllocError>
 
 /// The integers as a list, or that it is too heavy.
 pub fn integer_list(alloc: Global, zs: &[i64]) -> Result<Value, CallFault>
-    ensures { (store : List (List ℕ)) → Replies result store (fits (answers (λ d. d ≡ integer_list zs.now))) }
+    ensures { (store : Known) → Replies result store (fits (answers (λ d. d ≡ integer_list zs.now))) }
 {
     if is_heavy(zs.len() as u64) {
         return Err(CallFault::Script(Fault::TooLarge));
@@ -58,7 +59,7 @@ pub fn integer_list(alloc: Global, zs: &[i64]) -> Result<Value, CallFault>
 /// The naturals as a list, or that it is too heavy.
 pub fn natural_list(alloc: Global, ns: &[u64]) -> Result<Value, CallFault>
     requires { EachIndex ns.now (λ k. slice_index ns.now k < 2 ^ 63) }
-    ensures { (store : List (List ℕ)) → Replies result store (fits (answers (λ d. d ≡ natural_list ns.now))) }
+    ensures { (store : Known) → Replies result store (fits (answers (λ d. d ≡ natural_list ns.now))) }
 {
     if is_heavy(ns.len() as u64) {
         return Err(CallFault::Script(Fault::TooLarge));

@@ -1,8 +1,9 @@
 -- Values that name semigroups of a store.
 use Rattle.std.proofs.Common.{◌≡◌, ◌+◌, ◌<◌, ◌≤◌, ℕ, List, [], ◌∷◌, ◌++◌, length, get_or, take, Some, Ok, Err, Vec, Global, slice_get, map, unwrap_or, is_some, refl, ap, ap₂, sym, ◌∙◌, subst}
+use Rattle.sg_value.specs.Known.{Known, named}
 use Rattle.std.proofs.lemmas.List.{take_more, take_all}
-use Rattle.sg_value.specs.Data.{semigroup, list, items_of, item, data_map, EachSemigroup}
-use Rattle.sg_value.specs.Plain.{Named, IsKept, IsKnown, AllKnownIn, contents, plain, plain_of_all, generators_at}
+use Rattle.sg_value.specs.Data.{semigroup, list, items_of, item, data_map, EachThing, semigroups}
+use Rattle.sg_value.specs.Plain.{Named, IsKept, IsKnown, AllKnownIn, contents, plain, plain_of_all, thing_at}
 use Rattle.sg_value.specs.declared.value.Value.{Value}
 use Rattle.sg_value.specs.declared.value.Value.TheVariants as value
 use Rattle.sg_rows.specs.Order.{fits, IsReply}
@@ -20,9 +21,9 @@ abbrev pub Name : Named → List Value → List (List ℕ) → Type 0
 Name names [] [] = Unit {0}
 Name names [] (M ∷ L) = ⊥
 Name names (v ∷ vs) [] = ⊥
-Name names (v ∷ vs) (M ∷ L) = ((id : ℕ) × (contents v ≡ semigroup id) × (names id ≡ Some M)) × Name names vs L
+Name names (v ∷ vs) (M ∷ L) = ((id : ℕ) × (contents v ≡ semigroup id) × (names semigroups id ≡ Some M)) × Name names vs L
 
-pub name-push : (names : Named) (vs : List Value) (L : List (List ℕ)) (v : Value) (M : List ℕ) (id : ℕ) → Name names vs L → contents v ≡ semigroup id → names id ≡ Some M → Name names (vs ++ v ∷ []) (L ++ M ∷ [])
+pub name-push : (names : Named) (vs : List Value) (L : List (List ℕ)) (v : Value) (M : List ℕ) (id : ℕ) → Name names vs L → contents v ≡ semigroup id → names semigroups id ≡ Some M → Name names (vs ++ v ∷ []) (L ++ M ∷ [])
 name-push names [] [] v M id h is at = ((id, is, at), tt)
 name-push names [] (K ∷ L) v M id h is at = absurd h
 name-push names (w ∷ vs) [] v M id h is at = absurd h
@@ -39,28 +40,28 @@ name-plain names [] [] h = refl
 name-plain names [] (K ∷ L) h = absurd h
 name-plain names (w ∷ vs) [] h = absurd h
 name-plain names (w ∷ vs) (K ∷ L) h =
-    ap₂ item (ap (data_map (generators_at names)) h.0.1 ∙ ap (λ o. semigroup (unwrap_or o [])) h.0.2) (name-plain names vs L h.1)
+    ap₂ item (ap (data_map (thing_at names)) h.0.1 ∙ ap (λ o. semigroup (unwrap_or o [])) h.0.2) (name-plain names vs L h.1)
 
 pub name-known : (names : Named) (vs : List Value) (L : List (List ℕ)) → Name names vs L → AllKnownIn names vs
 name-known names [] [] h = tt
 name-known names [] (K ∷ L) h = absurd h
 name-known names (w ∷ vs) [] h = absurd h
-name-known names (w ∷ vs) (K ∷ L) h = (subst (EachSemigroup (IsKnown names)) (sym h.0.1) (ap is_some h.0.2), name-known names vs L h.1)
+name-known names (w ∷ vs) (K ∷ L) h = (subst (EachThing (IsKnown names)) (sym h.0.1) (ap is_some h.0.2), name-known names vs L h.1)
 
 pub kept-on : (one two three : Named) → IsKept one two → IsKept two three → IsKept one three
 kept-on one two three h k = λ i gens at. k i gens (h i gens at)
 
 -- what names the semigroups of a list is that list
-pub replies_names : (store : List (List ℕ)) (vs : Vec Value Global) (L : List (List ℕ)) → plain_of_all (slice_get store) vs.items ≡ items_of (map semigroup L) → AllKnownIn (slice_get store) vs.items → length L < 4194304
+pub replies_names : (store : Known) (vs : Vec Value Global) (L : List (List ℕ)) → plain_of_all (named store) vs.items ≡ items_of (map semigroup L) → AllKnownIn (named store) vs.items → length L < 4194304
     → Replies (Ok (value.List vs)) store (fits (answers (λ d. d ≡ semigroup_list L)))
 replies_names store vs L same known few =
     let row = answers (λ d. d ≡ semigroup_list L) in
-    let seen : plain (slice_get store) (value.List vs) ≡ semigroup_list L = ap (data_map (generators_at (slice_get store))) (contents-List vs) ∙ ap list same in (
+    let seen : plain (named store) (value.List vs) ≡ semigroup_list L = ap (data_map (thing_at (named store))) (contents-List vs) ∙ ap list same in (
       subst (λ d. IsReply (fits row) (Ok d)) (sym seen) (delivered row (semigroup_list L) (Ok (semigroup_list L)) (answers_pass (λ d. d ≡ semigroup_list L)) refl (delivers_semigroups L few)),
-      subst (EachSemigroup (IsKnown (slice_get store))) (sym (contents-List vs)) known,
+      subst (EachThing (IsKnown (named store))) (sym (contents-List vs)) known,
     )
 
-pub replies_heavy_names : (store : List (List ℕ)) (L : List (List ℕ)) → 4194304 ≤ length L → Replies (Err (Script TooLarge)) store (fits (answers (λ d. d ≡ semigroup_list L)))
+pub replies_heavy_names : (store : Known) (L : List (List ℕ)) → 4194304 ≤ length L → Replies (Err (Script TooLarge)) store (fits (answers (λ d. d ≡ semigroup_list L)))
 replies_heavy_names store L many =
     delivered (answers (λ d. d ≡ semigroup_list L)) (semigroup_list L) (Err TooLarge) (answers_pass (λ d. d ≡ semigroup_list L)) refl (delivers_heavy_semigroups L many)
 

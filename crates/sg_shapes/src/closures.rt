@@ -1,6 +1,8 @@
 //! The commands on Arf and saturated semigroups and on closures.
 
 ghost use Rattle.std.specs.Prelude.{◌≡◌, List, ℕ, slice_get, IfOk, Some};
+ghost use Rattle.sg_value.specs.Data.{semigroups};
+ghost use Rattle.sg_value.specs.Known.{Known, named};
 ghost use Rattle.sg_defs.specs.Closures.{IsArf, IsSaturated};
 ghost use Rattle.sg_value.specs.Plain.{AllKnown, plain};
 ghost use Rattle.sg_store.specs.Interned.{Keeps};
@@ -19,7 +21,7 @@ use std::alloc::{AllocError, Global};
 
 /// Whether it is Arf, within the limit of the span.
 fn is_arf_within(alloc: Global, table: &Table) -> Result<Value, CallFault>
-    ensures { (store : List (List ℕ)) → Replies result store (fits (spanned table.now (whether (IsArf table.now)))) }
+    ensures { (store : Known) → Replies result store (fits (spanned table.now (whether (IsArf table.now)))) }
 {
     if is_wide(table) {
         return Err(CallFault::Script(Fault::TooLarge));
@@ -30,8 +32,8 @@ fn is_arf_within(alloc: Global, table: &Table) -> Result<Value, CallFault>
 /// Whether `x + y - z` is a member for all members `x >= y >= z` (Rosales and Garcia-Sanchez, section 3.2). A value that
 /// is no semigroup is WrongType; a span past the limit is TooLarge.
 pub fn is_arf_of(alloc: Global, store: &mut Store, s: &Value) -> Result<Value, CallFault>
-    requires { AllKnown (slice_get store.old) s.now }
-    ensures reply { Replies result store.new (is_arf_of (plain (slice_get store.old) s.now)) }
+    requires { AllKnown (named store.old) s.now }
+    ensures reply { Replies result store.new (is_arf_of (plain (named store.old) s.now)) }
     ensures unchanged { store.new ≡ store.old }
 {
     let Some(id) = semigroup_of(s) else {
@@ -43,7 +45,7 @@ pub fn is_arf_of(alloc: Global, store: &mut Store, s: &Value) -> Result<Value, C
 
 /// Whether it is saturated, within the limit of the span.
 fn is_saturated_within(alloc: Global, table: &Table) -> Result<Value, CallFault>
-    ensures { (store : List (List ℕ)) → Replies result store (fits (spanned table.now (whether (IsSaturated table.now)))) }
+    ensures { (store : Known) → Replies result store (fits (spanned table.now (whether (IsSaturated table.now)))) }
 {
     if is_wide(table) {
         return Err(CallFault::Script(Fault::TooLarge));
@@ -54,8 +56,8 @@ fn is_saturated_within(alloc: Global, table: &Table) -> Result<Value, CallFault>
 /// Whether a member with any integer combination of members up to it that is not negative is a member (Rosales and
 /// Garcia-Sanchez, section 3.3). A value that is no semigroup is WrongType; a span past the limit is TooLarge.
 pub fn is_saturated_of(alloc: Global, store: &mut Store, s: &Value) -> Result<Value, CallFault>
-    requires { AllKnown (slice_get store.old) s.now }
-    ensures reply { Replies result store.new (is_saturated_of (plain (slice_get store.old) s.now)) }
+    requires { AllKnown (named store.old) s.now }
+    ensures reply { Replies result store.new (is_saturated_of (plain (named store.old) s.now)) }
     ensures unchanged { store.new ≡ store.old }
 {
     let Some(id) = semigroup_of(s) else {
@@ -67,7 +69,7 @@ pub fn is_saturated_of(alloc: Global, store: &mut Store, s: &Value) -> Result<Va
 
 /// The id of the semigroup of a table, its old one where it is known.
 fn known(store: &mut Store, table: &Table) -> Result<SemId, AllocError>
-    ensures stands { IfOk result (λ id. slice_get store.new id ≡ Some table.now) }
+    ensures stands { IfOk result (λ id. slice_get store.new.semigroups id ≡ Some table.now) }
     ensures keeps { Keeps store.old store.new }
 {
     store.intern(table.generators().try_clone()?)
@@ -76,8 +78,8 @@ fn known(store: &mut Store, table: &Table) -> Result<SemId, AllocError>
 /// The least Arf semigroup that holds all of it (Rosales and Garcia-Sanchez, section 3.2). A value that is no semigroup is
 /// WrongType; a span past the limit is TooLarge.
 pub fn arf_closure_of(alloc: Global, store: &mut Store, s: &Value) -> Result<Value, CallFault>
-    requires { AllKnown (slice_get store.old) s.now }
-    ensures reply { Replies result store.new (arf_closure_of (plain (slice_get store.old) s.now)) }
+    requires { AllKnown (named store.old) s.now }
+    ensures reply { Replies result store.new (arf_closure_of (plain (named store.old) s.now)) }
     ensures keeps { Keeps store.old store.new }
 {
     let Some(id) = semigroup_of(s) else {
@@ -95,8 +97,8 @@ pub fn arf_closure_of(alloc: Global, store: &mut Store, s: &Value) -> Result<Val
 /// The least semigroup of maximal embedding dimension and the same multiplicity that holds all of it (Rosales and
 /// Garcia-Sanchez, section 3.1). A value that is no semigroup is WrongType; a span past the limit is TooLarge.
 pub fn med_closure_of(alloc: Global, store: &mut Store, s: &Value) -> Result<Value, CallFault>
-    requires { AllKnown (slice_get store.old) s.now }
-    ensures reply { Replies result store.new (med_closure_of (plain (slice_get store.old) s.now)) }
+    requires { AllKnown (named store.old) s.now }
+    ensures reply { Replies result store.new (med_closure_of (plain (named store.old) s.now)) }
     ensures keeps { Keeps store.old store.new }
 {
     let Some(id) = semigroup_of(s) else {
@@ -114,8 +116,8 @@ pub fn med_closure_of(alloc: Global, store: &mut Store, s: &Value) -> Result<Val
 /// The least saturated semigroup that holds all of it (Rosales and Garcia-Sanchez, section 3.3). A value that is no
 /// semigroup is WrongType; a span past the limit is TooLarge.
 pub fn saturated_closure_of(alloc: Global, store: &mut Store, s: &Value) -> Result<Value, CallFault>
-    requires { AllKnown (slice_get store.old) s.now }
-    ensures reply { Replies result store.new (saturated_closure_of (plain (slice_get store.old) s.now)) }
+    requires { AllKnown (named store.old) s.now }
+    ensures reply { Replies result store.new (saturated_closure_of (plain (named store.old) s.now)) }
     ensures keeps { Keeps store.old store.new }
 {
     let Some(id) = semigroup_of(s) else {

@@ -1,10 +1,11 @@
 //! The decomposition into irreducible semigroups.
 
 ghost use Rattle.std.specs.Prelude.{◌≡◌, List, ℕ, slice_get, IfOk, All, map};
+ghost use Rattle.sg_value.specs.Known.{named};
 ghost use Rattle.sg_defs.specs.Decomposition.{IsDecomposition};
 ghost use Rattle.sg_defs.specs.Invariants.{IsPseudoFrobenius};
 ghost use Rattle.sg_defs.specs.Listings.{ListsIntegers};
-ghost use Rattle.sg_value.specs.Data.{items_of, semigroup};
+ghost use Rattle.sg_value.specs.Data.{items_of, semigroup, semigroups};
 ghost use Rattle.sg_value.specs.Plain.{AllKnown, AllKnownIn, plain, plain_of_all};
 ghost use Rattle.sg_store.specs.Fit.{IsStored};
 ghost use Rattle.sg_store.specs.Interned.{Keeps};
@@ -31,8 +32,8 @@ fn semigroup_values(
     lists: &[Nats],
 ) -> Result<Vec<Value>, AllocError>
     requires { All IsStored lists.now }
-    ensures plain { IfOk result (λ vs. plain_of_all (slice_get store.new) vs.items ≡ items_of (map semigroup lists.now)) }
-    ensures known { IfOk result (λ vs. AllKnownIn (slice_get store.new) vs.items) }
+    ensures plain { IfOk result (λ vs. plain_of_all (named store.new) vs.items ≡ items_of (map semigroup lists.now)) }
+    ensures known { IfOk result (λ vs. AllKnownIn (named store.new) vs.items) }
     ensures keeps { Keeps store.old store.new }
 {
     let mut values = Vec::with_capacity(alloc, lists.len())?;
@@ -81,8 +82,8 @@ pub fn decompose_into_irreducibles_of(
     store: &mut Store,
     s: &Value,
 ) -> Result<Value, CallFault>
-    requires { AllKnown (slice_get store.old) s.now }
-    ensures reply { Replies result store.new (decompose_into_irreducibles_of (plain (slice_get store.old) s.now)) }
+    requires { AllKnown (named store.old) s.now }
+    ensures reply { Replies result store.new (decompose_into_irreducibles_of (plain (named store.old) s.now)) }
     ensures keeps { Keeps store.old store.new }
 {
     let Some(id) = semigroup_of(s) else {

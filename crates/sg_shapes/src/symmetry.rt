@@ -1,6 +1,8 @@
 //! The commands that ask whether a semigroup is of a kind, and refuse nothing.
 
 ghost use Rattle.std.specs.Prelude.{◌≡◌, slice_get};
+ghost use Rattle.sg_value.specs.Data.{semigroups};
+ghost use Rattle.sg_value.specs.Known.{named};
 ghost use Rattle.sg_value.specs.Plain.{AllKnown, plain};
 ghost use Rattle.sg_shapes.specs.Symmetry.{is_symmetric_of, is_pseudo_symmetric_of, is_irreducible_of, is_med_of};
 ghost use Rattle.sg_rows.specs.Replies.{Replies};
@@ -15,8 +17,8 @@ use std::alloc::Global;
 /// Whether of every integer `x` and `F - x`, for the Frobenius number `F`, exactly one is a member (Rosales and
 /// Garcia-Sanchez, section 4.1). A value that is no semigroup is WrongType.
 pub fn is_symmetric_of(alloc: Global, store: &mut Store, s: &Value) -> Result<Value, CallFault>
-    requires { AllKnown (slice_get store.old) s.now }
-    ensures reply { Replies result store.new (is_symmetric_of (plain (slice_get store.old) s.now)) }
+    requires { AllKnown (named store.old) s.now }
+    ensures reply { Replies result store.new (is_symmetric_of (plain (named store.old) s.now)) }
     ensures unchanged { store.new ≡ store.old }
 {
     let Some(id) = semigroup_of(s) else {
@@ -33,8 +35,8 @@ pub fn is_pseudo_symmetric_of(
     store: &mut Store,
     s: &Value,
 ) -> Result<Value, CallFault>
-    requires { AllKnown (slice_get store.old) s.now }
-    ensures reply { Replies result store.new (is_pseudo_symmetric_of (plain (slice_get store.old) s.now)) }
+    requires { AllKnown (named store.old) s.now }
+    ensures reply { Replies result store.new (is_pseudo_symmetric_of (plain (named store.old) s.now)) }
     ensures unchanged { store.new ≡ store.old }
 {
     let Some(id) = semigroup_of(s) else {
@@ -47,8 +49,8 @@ pub fn is_pseudo_symmetric_of(
 /// Whether it is no meet of two numerical semigroups properly above it (Rosales and Garcia-Sanchez, section 4.1). A value
 /// that is no semigroup is WrongType.
 pub fn is_irreducible_of(alloc: Global, store: &mut Store, s: &Value) -> Result<Value, CallFault>
-    requires { AllKnown (slice_get store.old) s.now }
-    ensures reply { Replies result store.new (is_irreducible_of (plain (slice_get store.old) s.now)) }
+    requires { AllKnown (named store.old) s.now }
+    ensures reply { Replies result store.new (is_irreducible_of (plain (named store.old) s.now)) }
     ensures unchanged { store.new ≡ store.old }
 {
     let Some(id) = semigroup_of(s) else {
@@ -61,8 +63,8 @@ pub fn is_irreducible_of(alloc: Global, store: &mut Store, s: &Value) -> Result<
 /// Whether it is of maximal embedding dimension, that is, the embedding dimension is the multiplicity (Rosales and
 /// Garcia-Sanchez, section 3.1). A value that is no semigroup is WrongType.
 pub fn is_med_of(alloc: Global, store: &mut Store, s: &Value) -> Result<Value, CallFault>
-    requires { AllKnown (slice_get store.old) s.now }
-    ensures reply { Replies result store.new (is_med_of (plain (slice_get store.old) s.now)) }
+    requires { AllKnown (named store.old) s.now }
+    ensures reply { Replies result store.new (is_med_of (plain (named store.old) s.now)) }
     ensures unchanged { store.new ≡ store.old }
 {
     let Some(id) = semigroup_of(s) else {

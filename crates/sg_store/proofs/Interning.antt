@@ -1,116 +1,206 @@
--- Keys after one was inserted.
-use Rattle.std.proofs.Common.{◌≡◌, ℕ, zero, suc, Bool, true, false, List, [], ◌∷◌, ◌++◌, slice_get, Some, ◌||◌, if◌then◌else◌, refl, ap, sym, ◌∙◌, subst, true≢false, inl, inr, ◌⊎◌}
+-- What a store knows after a semigroup or an ideal was interned.
+use Rattle.std.proofs.Common.{◌≡◌, ℕ, ℤ, zero, suc, Bool, true, false, ◌&&◌, nat_eq, List, [], ◌∷◌, ◌++◌, map, slice_get, Some, IsSome, is_some, unwrap_or, refl, ap, ap₂, sym, ◌∙◌, subst, inl, inr, ◌⊎◌}
 use Rattle.std.proofs.lemmas.List.{map-append}
-use Rattle.std.proofs.lemmas.Option.{slice_get-map}
-use Rattle.std.specs.Option.{option_map}
-use Rattle.std.specs.List.{list_any, IsDistinct, AllByRecursion}
+use Rattle.std.specs.List.{IsDistinct}
 use Rattle.std.proofs.lemmas.Slice.Eq.{bytes_eq-Decides}
+use Rattle.std.specs.Cmp.Lexicographic.{pointwise}
+use Rattle.std.specs.Cmp.Rules.{signed_items}
+use Rattle.std.specs.Ordering.{int_eq}
+use Rattle.std.proofs.lemmas.Bool.Decides.{Decides-eqb}
 use Rattle.indexmap.specs.IndexSet.{insert_key}
-use Rattle.sg_store.specs.Fit.{IsStored}
 use Rattle.std.specs.HashMap.{HashMap}
 use Rattle.std.specs.declared.rc.Rc.{Rc}
 use Rattle.std.specs.Global.{Global}
-use Rattle.std.proofs.Common.{ℤ}
-use Rattle.sg_store.specs.Held.{same_key, lists_of, AreTables, AreNumbers}
-use Rattle.sg_store.specs.Interned.{Keeps, IsInterned}
-use Rattle.sg_value.specs.Plain.{AreDistinct}
+use Rattle.sg_value.specs.Data.{semigroups, ideals}
+use Rattle.sg_value.specs.Plain.{AreDistinct, RelativeIdeal, thing_at, nothing}
+use Rattle.sg_value.specs.Known.{named}
+use Rattle.sg_store.specs.Fit.{IsStored, IsStoredIdeal}
+use Rattle.sg_store.specs.Held.{same_key, same_ideal_key, lists_of, list_at, ideal_of, ideals_of, known_by, AreTables, AreNumbers, AllFit, IsFitKey, AllIdealsFit}
+use Rattle.sg_store.specs.Interned.{Keeps, IsInterned, IsIdealInterned, with_semigroup, with_ideal}
+use Rattle.sg_store.specs.Keyed.{IsKeyOf}
 use Rattle.sg_store.specs.declared.key.Key.{Key}
+use Rattle.sg_store.specs.declared.key.IdealKey.{IdealKey}
+use Rattle.sg_store.proofs.Inserting.{old_or_inserted, only, kept, key_at, thing_of_key, injective, unchanged, stands, old_place}
 
-some_is : {A : Type 0} (x y : A) → Some x ≡ Some y → x ≡ y
-some_is x y h = cc
+-- ---- keys
 
--- what stands in front stays
-front : {A : Type 0} (xs ys : List A) (i : ℕ) (x : A) → slice_get xs i ≡ Some x → slice_get (xs ++ ys) i ≡ Some x
-front [] ys i x h = absurd (cc)
-front (y ∷ xs) ys zero x h = h
-front (y ∷ xs) ys (suc i) x h = front xs ys i x h
+list_of : Key → List ℕ
+list_of k = k.list
 
--- an item stood there before, or is the one that was put last
-before_or_last : {A : Type 0} (xs : List A) (y : A) (i : ℕ) (x : A) → slice_get (xs ++ y ∷ []) i ≡ Some x → (slice_get xs i ≡ Some x) ⊎ (y ≡ x)
-before_or_last [] y zero x h = inr (some_is y x h)
-before_or_last [] y (suc i) x h = absurd (cc)
-before_or_last (z ∷ xs) y zero x h = inl h
-before_or_last (z ∷ xs) y (suc i) x h = before_or_last xs y i x h
+same_lists : (a b : Key) → (same_key a b ≡ true → a.list ≡ b.list) × (a.list ≡ b.list → same_key a b ≡ true)
+same_lists a b = bytes_eq-Decides a.list b.list
 
--- keys that are the same are of the same list
-same_list : (a b : Key) → same_key a b ≡ true → a.list ≡ b.list
-same_list a b h = (bytes_eq-Decides a.list b.list).0 h
+abbrev pub Pair : Type 0
+Pair = ℕ × List ℤ
 
--- a list that stands there is found by its key
-found : (keys : List Key) (k : Key) (i : ℕ) → slice_get (lists_of keys) i ≡ Some k.list → list_any (same_key k) keys ≡ true
-found [] k i h = absurd (cc)
-found (x ∷ xs) k zero h = ap (λ b. b || list_any (same_key k) xs) ((bytes_eq-Decides k.list x.list).1 (sym (some_is x.list k.list h)))
-found (x ∷ xs) k (suc i) h = by (same_key k x) (found xs k i h)
-  where
-    by : (b : Bool) → list_any (same_key k) xs ≡ true → (b || list_any (same_key k) xs) ≡ true
-    by true e = refl
-    by false e = e
+abbrev pub pair_of : IdealKey → Pair
+pair_of k = (k.ambient, k.list)
 
-absent : (xs : List Key) (x : Key) (j : ℕ) → AllByRecursion (λ y. same_key x y ≡ false) xs → slice_get (lists_of xs) j ≡ Some x.list → ⊥
-absent [] x j all h = cc
-absent (y ∷ ys) x zero all h = true≢false (sym ((bytes_eq-Decides x.list y.list).1 (sym (some_is y.list x.list h))) ∙ all.0)
-absent (y ∷ ys) x (suc j) all h = absent ys x j all.1 h
+both : (a b : Bool) → (a && b) ≡ true → (a ≡ true) × (b ≡ true)
+both true b h = (refl, h)
+both false b h = absurd (cc)
 
--- where no two keys are the same, no two ids stand for the same list
-pub unique_injective : (keys : List Key) → IsDistinct same_key keys → AreDistinct (slice_get (lists_of keys))
-unfolding IsDistinct
-unique_injective [] d i j gens h k = absurd (cc)
-unique_injective (x ∷ xs) d zero zero gens h k = refl
-unique_injective (x ∷ xs) d zero (suc j) gens h k = absurd (absent xs x j d.0 (k ∙ sym h))
-unique_injective (x ∷ xs) d (suc i) zero gens h k = absurd (absent xs x i d.0 (h ∙ sym k))
-unique_injective (x ∷ xs) d (suc i) (suc j) gens h k = ap suc (unique_injective xs d.1 i j gens h k)
+same_pairs : (a b : IdealKey) → (same_ideal_key a b ≡ true → pair_of a ≡ pair_of b) × (pair_of a ≡ pair_of b → same_ideal_key a b ≡ true)
+same_pairs a b = (
+  (λ h. let t = both (nat_eq a.ambient b.ambient) (pointwise int_eq a.list b.list) h in ap₂ (λ n zs. (n, zs)) ((Decides-eqb a.ambient b.ambient).0 t.0) ((signed_items a.list b.list).0 t.1)),
+  (λ e. ap₂ (λ p q. p && q) ((Decides-eqb a.ambient b.ambient).1 (ap (λ (p : Pair). p.0) e)) ((signed_items a.list b.list).1 (ap (λ (p : Pair). p.1) e))),
+)
 
--- each list is fit
-abbrev pub AllFit : List Key → Type 0
-AllFit keys = (i : ℕ) (gens : List ℕ) → slice_get (lists_of keys) i ≡ Some gens → IsStored gens
+-- ---- the lists at ids
 
-module _ (keys : List Key) (k : Key) where
-  abbrev added : Bool → List Key
-  added b = if b then keys else keys ++ k ∷ []
+list_at-some : (lists : List (List ℕ)) (i : ℕ) → IsSome (slice_get lists i) → slice_get lists i ≡ Some (list_at lists i)
+list_at-some [] i h = absurd (cc)
+list_at-some (x ∷ xs) zero h = refl
+list_at-some (x ∷ xs) (suc i) h = list_at-some xs i h
 
-  pushed : lists_of (keys ++ k ∷ []) ≡ lists_of keys ++ k.list ∷ []
-  pushed = map-append (λ (x : Key). x.list) keys (k ∷ [])
+-- lists that go on to stand where they stood
+abbrev pub Grows : List (List ℕ) → List (List ℕ) → Type 0
+Grows old new = (i : ℕ) (gens : List ℕ) → slice_get old i ≡ Some gens → slice_get new i ≡ Some gens
 
-  fit_added : (b : Bool) → AllFit keys → IsStored k.list → AllFit (added b)
-  fit_added true all fit = all
-  fit_added false all fit = λ i gens h. by i gens (before_or_last (lists_of keys) k.list i gens (ap (λ l. slice_get l i) (sym pushed) ∙ h))
-    where
-      by : (i : ℕ) (gens : List ℕ) → (slice_get (lists_of keys) i ≡ Some gens) ⊎ (k.list ≡ gens) → IsStored gens
-      by i gens (inl h) = all i gens h
-      by i gens (inr e) = subst IsStored e fit
+list_at-grows : (old new : List (List ℕ)) → Grows old new → (i : ℕ) → IsSome (slice_get old i) → list_at new i ≡ list_at old i
+list_at-grows old new grows i h = ap (λ o. unwrap_or o []) (grows i (list_at old i) (list_at-some old i h))
+
+ideal_of-grows : (old new : List (List ℕ)) → Grows old new → (k : IdealKey) → IsFitKey old k → ideal_of new k ≡ ideal_of old k
+ideal_of-grows old new grows k fit = ap (λ (l : List ℕ). record { ambient = l; generators = k.list }) (list_at-grows old new grows k.ambient fit.ambient)
+
+ideals_of-grows : (old new : List (List ℕ)) → Grows old new → (keys : List IdealKey) → AllIdealsFit old keys → ideals_of new keys ≡ ideals_of old keys
+ideals_of-grows old new grows [] all = refl
+ideals_of-grows old new grows (k ∷ ks) all = ap₂ (λ (i : RelativeIdeal) is. i ∷ is) (ideal_of-grows old new grows k (all 0 k refl)) (ideals_of-grows old new grows ks (λ i x h. all (suc i) x h))
+
+pub ideals_fit-grows : (old new : List (List ℕ)) → Grows old new → (keys : List IdealKey) → AllIdealsFit old keys → AllIdealsFit new keys
+ideals_fit-grows old new grows keys all i k at =
+    let fit = all i k at in
+    record {
+      ambient = ap is_some (grows k.ambient (list_at old k.ambient) (list_at-some old k.ambient fit.ambient));
+      fit = subst IsStoredIdeal (sym (ideal_of-grows old new grows k fit)) fit.fit;
+    }
+
+-- ---- distinct things
+
+module _ (keys : List Key) (distinct : IsDistinct same_key keys) (ideal_keys : List IdealKey) (fit : AllIdealsFit (lists_of keys) ideal_keys) (ideals_distinct : IsDistinct same_ideal_key ideal_keys) where
+  lists_injective : (i j : ℕ) (gens : List ℕ) → slice_get (lists_of keys) i ≡ Some gens → slice_get (lists_of keys) j ≡ Some gens → i ≡ j
+  lists_injective = injective (λ (k : Key). k.list) same_key same_lists keys distinct
+
+  -- keys of the same ideal are the same
+  pub same_ideal : (a b : IdealKey) → IsSome (slice_get (lists_of keys) a.ambient) → IsSome (slice_get (lists_of keys) b.ambient) → ideal_of (lists_of keys) a ≡ ideal_of (lists_of keys) b → pair_of a ≡ pair_of b
+  same_ideal a b known_a known_b e =
+      let lists = lists_of keys in
+      let lists_same : list_at lists a.ambient ≡ list_at lists b.ambient = ap (λ (i : RelativeIdeal). i.ambient) e in
+      let places : a.ambient ≡ b.ambient = lists_injective a.ambient b.ambient (list_at lists a.ambient) (list_at-some lists a.ambient known_a) (list_at-some lists b.ambient known_b ∙ ap Some (sym lists_same)) in
+      let gens : a.list ≡ b.list = ap (λ (i : RelativeIdeal). i.generators) e in
+      ap₂ (λ n zs. (n, zs)) places gens
+
+  pub known_distinct : AreDistinct (named (known_by keys ideal_keys))
+  known_distinct semigroups i j gens h k = lists_injective i j gens h k
+  known_distinct ideals i j thing h k =
+      let at_i = key_at (ideal_of (lists_of keys)) ideal_keys i thing h in
+      let at_j = key_at (ideal_of (lists_of keys)) ideal_keys j thing k in
+      let pairs = same_ideal at_i.0 at_j.0 (fit i at_i.0 at_i.1).ambient (fit j at_j.0 at_j.1).ambient (at_i.2 ∙ sym at_j.2) in
+      injective pair_of same_ideal_key same_pairs ideal_keys ideals_distinct i j (pair_of at_i.0) (thing_of_key pair_of ideal_keys i at_i.0 at_i.1) (thing_of_key pair_of ideal_keys j at_j.0 at_j.1 ∙ ap Some (sym pairs))
+
+-- ---- a semigroup
+
+module _ (keys : List Key) (k : Key) (ideal_keys : List IdealKey) where
+  pub lists_grow : Grows (lists_of keys) (lists_of (insert_key same_key keys k))
+  lists_grow = kept same_key keys k (λ (x : Key). x.list)
 
   pub fit_inserted : AllFit keys → IsStored k.list → AllFit (insert_key same_key keys k)
-  fit_inserted all fit = fit_added (list_any (same_key k) keys) all fit
+  fit_inserted all fit i gens h =
+      let at = key_at (λ (x : Key). x.list) (insert_key same_key keys k) i gens h in
+      by at.0 (old_or_inserted same_key keys k i at.0 at.1) at.2
+    where
+      by : (x : Key) → (slice_get keys i ≡ Some x) ⊎ (k ≡ x) → x.list ≡ gens → IsStored gens
+      by x (inl h) e = all i gens (thing_of_key (λ (y : Key). y.list) keys i x h ∙ ap Some e)
+      by x (inr h) e = subst IsStored (ap (λ (y : Key). y.list) h ∙ e) fit
 
-  kept_added : (b : Bool) → Keeps (lists_of keys) (lists_of (added b))
-  kept_added true i gens h = h
-  kept_added false i gens h = subst (λ l. slice_get l i ≡ Some gens) (sym pushed) (front (lists_of keys) (k.list ∷ []) i gens h)
+  module _ (ideals_fit : AllIdealsFit (lists_of keys) ideal_keys) where
+    same_ideals : ideals_of (lists_of (insert_key same_key keys k)) ideal_keys ≡ ideals_of (lists_of keys) ideal_keys
+    same_ideals = ideals_of-grows (lists_of keys) (lists_of (insert_key same_key keys k)) lists_grow ideal_keys ideals_fit
 
-  pub kept_inserted : Keeps (lists_of keys) (lists_of (insert_key same_key keys k))
-  kept_inserted = kept_added (list_any (same_key k) keys)
+    pub keeps_inserted : Keeps (known_by keys ideal_keys) (known_by (insert_key same_key keys k) ideal_keys)
+    keeps_inserted semigroups i gens h = lists_grow i gens h
+    keeps_inserted ideals i thing h = subst (λ (l : List RelativeIdeal). slice_get l i ≡ Some thing) (sym same_ideals) h
 
-  only_added : (b : Bool) → (lists_of (added b) ≡ lists_of keys) ⊎ (lists_of (added b) ≡ lists_of keys ++ k.list ∷ [])
-  only_added true = inl refl
-  only_added false = inr pushed
+    only_inserted : (known_by (insert_key same_key keys k) ideal_keys ≡ known_by keys ideal_keys) ⊎ (known_by (insert_key same_key keys k) ideal_keys ≡ with_semigroup (known_by keys ideal_keys) k.list)
+    only_inserted = by (only same_key keys k)
+      where
+        by : (insert_key same_key keys k ≡ keys) ⊎ (insert_key same_key keys k ≡ keys ++ k ∷ [])
+            → (known_by (insert_key same_key keys k) ideal_keys ≡ known_by keys ideal_keys) ⊎ (known_by (insert_key same_key keys k) ideal_keys ≡ with_semigroup (known_by keys ideal_keys) k.list)
+        by (inl e) = inl (ap (λ l. known_by l ideal_keys) e)
+        by (inr e) = inr (ap₂ (λ (l : List (List ℕ)) (is : List RelativeIdeal). record { semigroups = l; ideals = is }) (ap lists_of e ∙ map-append (λ (x : Key). x.list) keys (k ∷ [])) same_ideals)
 
-  pub interned : (found_key : Key) (id : ℕ) → slice_get (insert_key same_key keys k) id ≡ Some found_key → same_key k found_key ≡ true
-      → IsDistinct same_key (insert_key same_key keys k) → IsInterned (lists_of keys) (lists_of (insert_key same_key keys k)) k.list id
-  interned found_key id at same distinct = record {
-    stands = stands;
-    known = λ i h. (
-      unique_injective (insert_key same_key keys k) distinct id i k.list stands (kept_added (list_any (same_key k) keys) i k.list h),
-      ap (λ b. lists_of (added b)) (found keys k i h),
+    pub interned : (found_key : Key) (id : ℕ) → slice_get (insert_key same_key keys k) id ≡ Some found_key → same_key k found_key ≡ true
+        → IsDistinct same_key (insert_key same_key keys k) → IsInterned (known_by keys ideal_keys) (known_by (insert_key same_key keys k) ideal_keys) k.list id
+    interned found_key id at e distinct = record {
+      stands = stands (λ (x : Key). x.list) same_key same_lists keys k found_key id at e;
+      known = λ i h. (
+        old_place (λ (x : Key). x.list) same_key same_lists keys k found_key id at e distinct i h,
+        ap (λ l. known_by l ideal_keys) (unchanged (λ (x : Key). x.list) same_key same_lists keys k i h),
+      );
+      only = only_inserted;
+      keeps = keeps_inserted;
+    }
+
+-- ---- an ideal
+
+module _ (keys : List Key) (distinct : IsDistinct same_key keys) (ideal_keys : List IdealKey) (fit : AllIdealsFit (lists_of keys) ideal_keys) (k : IdealKey) (known : IsFitKey (lists_of keys) k) where
+  pub ideals_fit_inserted : AllIdealsFit (lists_of keys) (insert_key same_ideal_key ideal_keys k)
+  ideals_fit_inserted i x at = by (old_or_inserted same_ideal_key ideal_keys k i x at)
+    where
+      by : (slice_get ideal_keys i ≡ Some x) ⊎ (k ≡ x) → IsFitKey (lists_of keys) x
+      by (inl h) = fit i x h
+      by (inr e) = subst (IsFitKey (lists_of keys)) e known
+
+  pub keeps_ideal : Keeps (known_by keys ideal_keys) (known_by keys (insert_key same_ideal_key ideal_keys k))
+  keeps_ideal semigroups i gens h = h
+  keeps_ideal ideals i thing h = kept same_ideal_key ideal_keys k (ideal_of (lists_of keys)) i thing h
+
+  only_ideal : (known_by keys (insert_key same_ideal_key ideal_keys k) ≡ known_by keys ideal_keys) ⊎ (known_by keys (insert_key same_ideal_key ideal_keys k) ≡ with_ideal (known_by keys ideal_keys) (ideal_of (lists_of keys) k))
+  only_ideal = by (only same_ideal_key ideal_keys k)
+    where
+      by : (insert_key same_ideal_key ideal_keys k ≡ ideal_keys) ⊎ (insert_key same_ideal_key ideal_keys k ≡ ideal_keys ++ k ∷ [])
+          → (known_by keys (insert_key same_ideal_key ideal_keys k) ≡ known_by keys ideal_keys) ⊎ (known_by keys (insert_key same_ideal_key ideal_keys k) ≡ with_ideal (known_by keys ideal_keys) (ideal_of (lists_of keys) k))
+      by (inl e) = inl (ap (known_by keys) e)
+      by (inr e) = inr (ap (λ (is : List RelativeIdeal). record { semigroups = lists_of keys; ideals = is }) (ap (ideals_of (lists_of keys)) e ∙ map-append (ideal_of (lists_of keys)) ideal_keys (k ∷ [])))
+
+  -- the pair of an ideal that is known
+  pair_at : IsDistinct same_ideal_key ideal_keys → (j : ℕ) → slice_get (ideals_of (lists_of keys) ideal_keys) j ≡ Some (ideal_of (lists_of keys) k) → slice_get (map pair_of ideal_keys) j ≡ Some (pair_of k)
+  pair_at ideals_distinct j h =
+      let at = key_at (ideal_of (lists_of keys)) ideal_keys j (ideal_of (lists_of keys) k) h in
+      let pairs = same_ideal keys distinct ideal_keys fit ideals_distinct at.0 k (fit j at.0 at.1).ambient known.ambient at.2 in
+      thing_of_key pair_of ideal_keys j at.0 at.1 ∙ ap Some pairs
+
+  pub ideal_interned : (found_key : IdealKey) (id : ℕ) → slice_get (insert_key same_ideal_key ideal_keys k) id ≡ Some found_key → same_ideal_key k found_key ≡ true
+      → IsDistinct same_ideal_key ideal_keys → IsDistinct same_ideal_key (insert_key same_ideal_key ideal_keys k)
+      → IsIdealInterned (known_by keys ideal_keys) (known_by keys (insert_key same_ideal_key ideal_keys k)) (ideal_of (lists_of keys) k) id
+  ideal_interned found_key id at e before after = record {
+    stands = thing_of_key (ideal_of (lists_of keys)) (insert_key same_ideal_key ideal_keys k) id found_key at ∙ ap Some (same_thing (sym ((same_pairs k found_key).0 e)));
+    known = λ j h. (
+      old_place pair_of same_ideal_key same_pairs ideal_keys k found_key id at e after j (pair_at before j h),
+      ap (known_by keys) (unchanged pair_of same_ideal_key same_pairs ideal_keys k j (pair_at before j h)),
     );
-    only = only_added (list_any (same_key k) keys);
-    keeps = kept_added (list_any (same_key k) keys);
+    only = only_ideal;
+    keeps = keeps_ideal;
   }
     where
-      stands : slice_get (lists_of (insert_key same_key keys k)) id ≡ Some k.list
-      stands = slice_get-map (λ (x : Key). x.list) (insert_key same_key keys k) id ∙ (ap (option_map (λ (x : Key). x.list)) at ∙ ap Some (sym (same_list k found_key same)))
+      same_thing : pair_of found_key ≡ pair_of k → ideal_of (lists_of keys) found_key ≡ ideal_of (lists_of keys) k
+      same_thing p = ap (λ (q : Pair). record { ambient = list_at (lists_of keys) q.0; generators = q.1 }) p
 
--- what is kept of ids stays theirs as lists come in
-pub tables_kept : {S : Type 0} (old new : List (List ℕ)) (tables : HashMap ℕ (Rc (List ℕ) Global) S) → Keeps old new → AreTables old tables → AreTables new tables
-tables_kept old new tables keeps are i t at = keeps i t.value (are i t at)
+-- the key at an id is that of the ideal there
+pub key_of : (keys : List Key) (ideal_keys : List IdealKey) (id : ℕ) (k : IdealKey) → slice_get ideal_keys id ≡ Some k → IsFitKey (lists_of keys) k → IsKeyOf (known_by keys ideal_keys) id k
+key_of keys ideal_keys id k at fit =
+    let thing : slice_get (ideals_of (lists_of keys) ideal_keys) id ≡ Some (ideal_of (lists_of keys) k) = thing_of_key (ideal_of (lists_of keys)) ideal_keys id k at in
+    let is : thing_at (named (known_by keys ideal_keys)) ideals id ≡ ideal_of (lists_of keys) k = ap (λ o. unwrap_or o (nothing ideals)) thing in
+    record {
+      ambient = list_at-some (lists_of keys) k.ambient fit.ambient ∙ ap (λ (i : RelativeIdeal). Some i.ambient) (sym is);
+      generators = ap (λ (i : RelativeIdeal). i.generators) (sym is);
+      fit = subst IsStoredIdeal (sym is) fit.fit;
+    }
 
-pub numbers_kept : {S : Type 0} (old new : List (List ℕ)) (kept : HashMap ℕ (Rc (List ℤ) Global) S) → Keeps old new → AreNumbers old kept → AreNumbers new kept
-numbers_kept old new kept keeps are i t at = let known = are i t at in (known.0, keeps i known.0 known.1, known.2)
+-- ---- what is kept of ids stays theirs as lists come in
+
+pub tables_kept : {S : Type 0} (old new : List (List ℕ)) (tables : HashMap ℕ (Rc (List ℕ) Global) S) → Grows old new → AreTables old tables → AreTables new tables
+tables_kept old new tables grows are i t at = grows i t.value (are i t at)
+
+pub numbers_kept : {S : Type 0} (old new : List (List ℕ)) (kept : HashMap ℕ (Rc (List ℤ) Global) S) → Grows old new → AreNumbers old kept → AreNumbers new kept
+numbers_kept old new kept grows are i t at = let known = are i t at in (known.0, grows i known.0 known.1, known.2)

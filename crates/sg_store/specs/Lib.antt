@@ -1,3 +1,4 @@
 pub mod Fit
 pub mod Interned
 pub mod Held
+pub mod Keyed

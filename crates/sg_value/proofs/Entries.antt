@@ -1,7 +1,7 @@
 -- The entries of a list of values.
 use Rattle.std.proofs.Common.{◌≡◌, ℕ, ◌+◌, ◌<◌, zero, suc, List, [], ◌∷◌, ◌++◌, length, get_or, take, Some, IsSome, refl, ap, subst, sym, arith}
-use Rattle.sg_value.specs.Data.{Data, int, truth, text, list, fail, semigroup, Items, none, item, EachSemigroup, EachSemigroupOfAll}
-use Rattle.sg_value.specs.Plain.{Named, contents, AllKnown, AllKnownIn, plain, plain_of_all}
+use Rattle.sg_value.specs.Data.{Kind, Data, int, truth, text, list, fail, semigroup, ideal, Items, none, item, EachThing, EachThingOfAll}
+use Rattle.sg_value.specs.Plain.{Things, Named, contents, AllKnown, AllKnownIn, plain, plain_of_all}
 use Rattle.sg_value.specs.Text.{entry_text, entry_texts, joined, separator}
 use Rattle.sg_value.proofs.Fronts.{IsNext}
 use Rattle.sg_value.proofs.Pieces.{joined-next}
@@ -14,21 +14,22 @@ AllKnownIn-at names (w ∷ ws) zero v d all within is = subst (λ x. AllKnown na
 AllKnownIn-at names (w ∷ ws) (suc i) v d all within is = AllKnownIn-at names ws i v d all.1 (omega arith) is
 
 mutual
-  EachSemigroup-all : {H : Type 0} (P : H → Type 0) → ((h : H) → P h) → (d : Data H) → EachSemigroup P d
-  EachSemigroup-all P all (int z) = tt
-  EachSemigroup-all P all (truth b) = tt
-  EachSemigroup-all P all (text bs) = tt
-  EachSemigroup-all P all (list ds) = EachSemigroupOfAll-all P all ds
-  EachSemigroup-all P all fail = tt
-  EachSemigroup-all P all (semigroup h) = all h
+  EachThing-all : {H : Kind → Type 0} (P : (k : Kind) → H k → Type 0) → ((k : Kind) (h : H k) → P k h) → (d : Data H) → EachThing P d
+  EachThing-all P all (int z) = tt
+  EachThing-all P all (truth b) = tt
+  EachThing-all P all (text bs) = tt
+  EachThing-all P all (list ds) = EachThingOfAll-all P all ds
+  EachThing-all P all fail = tt
+  EachThing-all P all (semigroup h) = all _ h
+  EachThing-all P all (ideal h) = all _ h
 
-  EachSemigroupOfAll-all : {H : Type 0} (P : H → Type 0) → ((h : H) → P h) → (ds : Items H) → EachSemigroupOfAll P ds
-  EachSemigroupOfAll-all P all none = tt
-  EachSemigroupOfAll-all P all (item d ds) = (EachSemigroup-all P all d, EachSemigroupOfAll-all P all ds)
+  EachThingOfAll-all : {H : Kind → Type 0} (P : (k : Kind) → H k → Type 0) → ((k : Kind) (h : H k) → P k h) → (ds : Items H) → EachThingOfAll P ds
+  EachThingOfAll-all P all none = tt
+  EachThingOfAll-all P all (item d ds) = (EachThing-all P all d, EachThingOfAll-all P all ds)
 
 -- where every place is known, so is every value
-pub AllKnown-all : (gens : List ℕ) (v : Value) → AllKnown (λ i. Some gens) v
-AllKnown-all gens v = EachSemigroup-all (λ i. IsSome (Some gens)) (λ i. refl) (contents v)
+pub AllKnown-all : (things : (k : Kind) → Things k) (v : Value) → AllKnown (λ k i. Some (things k)) v
+AllKnown-all things v = EachThing-all (λ k i. IsSome (Some (things k))) (λ k i. refl) (contents v)
 
 pub ruleset all_known = (AllKnown-all)
 

@@ -1,5 +1,6 @@
 -- The pieces of the texts that loops print.
-use Rattle.std.proofs.Common.{◌≡◌, ℕ, ◌+◌, ◌<◌, ◌≤◌, zero, suc, List, [], ◌∷◌, ◌++◌, length, get_or, take, drop, map, flat_map, codes, decimal, ap, sym, ◌∙◌, subst, append_assoc, append-nil, add-one, arith}
+use Rattle.std.specs.Fmt.{signed_decimal}
+use Rattle.std.proofs.Common.{◌≡◌, ℕ, ℤ, pos, ◌+◌, ◌<◌, ◌≤◌, zero, suc, List, [], ◌∷◌, ◌++◌, length, get_or, take, drop, map, flat_map, codes, decimal, ap, sym, ◌∙◌, subst, append_assoc, append-nil, add-one, arith}
 use Rattle.std.proofs.lemmas.List.{take_more, take_all, take-append-drop, length-map, get_or-map}
 use Rattle.std.proofs.lemmas.Grind.{flat_map-append}
 use Rattle.sg_value.specs.Text.{joined, separator}
@@ -38,6 +39,10 @@ joined-next ts i t d within is =
 -- number i among the numbers of a list
 pub numbers-next : (ns : List ℕ) (i : ℕ) → i < length ns → IsNext (joined (take i (map decimal ns))) (separator i ++ decimal (get_or ns i 0)) (joined (take (i + 1) (map decimal ns))) (joined (map decimal ns))
 numbers-next ns i within = joined-next (map decimal ns) i (decimal (get_or ns i 0)) [] (rw length-map within) (get_or-map decimal ns i 0 [] within)
+
+-- integer number i among those of a list
+pub integers-next : (zs : List ℤ) (i : ℕ) → i < length zs → IsNext (joined (take i (map signed_decimal zs))) (separator i ++ signed_decimal (get_or zs i (pos 0))) (joined (take (i + 1) (map signed_decimal zs))) (joined (map signed_decimal zs))
+integers-next zs i within = joined-next (map signed_decimal zs) i (signed_decimal (get_or zs i (pos 0))) [] (rw length-map within) (get_or-map signed_decimal zs i (pos 0) [] within)
 
 -- all texts of a list were taken
 pub joined-all : (ts : List (List ℕ)) (i : ℕ) → length ts ≤ i → joined (take i ts) ≡ joined ts

@@ -1,4 +1,5 @@
 pub mod Data
 pub mod Plain
+pub mod Known
 pub mod Text
 pub mod Laws

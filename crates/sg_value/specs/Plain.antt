@@ -1,54 +1,89 @@
 -- The plain data of a value.
-use Rattle.std.specs.Prelude.{◌≡◌, ℕ, List, [], map, Option, Some, IsSome, unwrap_or}
-use Rattle.sg_value.specs.Data.{Data, int, truth, text, list, fail, semigroup, Items, items_of, data_map, items_map, EachSemigroup, EachSemigroupOfAll}
+use Rattle.std.specs.Prelude.{◌≡◌, ℕ, ℤ, List, [], map, Option, Some, IsSome, unwrap_or}
+use Rattle.sg_value.specs.Data.{Kind, semigroups, ideals, Data, int, truth, text, list, fail, semigroup, ideal, Items, items_of, data_map, items_map, EachThing, EachThingOfAll}
 use Rattle.sg_value.specs.declared.value.Value.{Value, fold-Value}
 use Rattle.sg_value.specs.declared.value.Value.TheOpen.{Value-F}
 
+-- a thing by its place in a store
+abbrev pub Places : Kind → Type 0
+Places k = ℕ
+
+-- a relative ideal by the minimal lists of its ambient semigroup and of its own generators
+pub record RelativeIdeal : Type 0 where
+  pub ambient : List ℕ
+  pub generators : List ℤ
+
+-- a thing by what it is made of: a semigroup is its minimal list
+abbrev pub Things : Kind → Type 0
+Things semigroups = List ℕ
+Things ideals = RelativeIdeal
+
+-- a value as it is stored, and a value with no store behind it
+abbrev pub Stored : Type 0
+Stored = Data Places
+
+abbrev pub Plain : Type 0
+Plain = Data Things
+
 -- one level, with each entry already seen as its data
-abbrev pub level : Value-F (Data ℕ) → Data ℕ
+abbrev pub level : Value-F Stored → Stored
 level (Value-F.Int z) = int z
 level (Value-F.Bool b) = truth b
 level (Value-F.Text bs) = text bs
 level (Value-F.List v) = list (items_of v.items)
 level Value-F.Fail = fail
 level (Value-F.Sem id) = semigroup id
+level (Value-F.Ideal id) = ideal id
 
--- a value as plain data, with the places of semigroups
-abbrev pub contents : Value → Data ℕ
-contents = fold-Value (Data ℕ) level
+-- a value as plain data, with the places of its things
+abbrev pub contents : Value → Stored
+contents = fold-Value Stored level
 
-abbrev pub contents_of_all : List Value → Items ℕ
+abbrev pub contents_of_all : List Value → Items Places
 contents_of_all vs = items_of (map contents vs)
 
--- what the known places stand for: the minimal lists of semigroups
+-- what the known places of each kind stand for
 abbrev pub Named : Type 0
-Named = ℕ → Option (List ℕ)
+Named = (k : Kind) → ℕ → Option (Things k)
 
-abbrev pub IsKnown : Named → ℕ → Type 0
-IsKnown names i = IsSome (names i)
+abbrev pub IsKnown : Named → (k : Kind) → ℕ → Type 0
+IsKnown names k i = IsSome (names k i)
 
--- each semigroup in the value is known
+-- each thing in the value is known
 abbrev pub AllKnown : Named → Value → Type 0
-AllKnown names v = EachSemigroup (IsKnown names) (contents v)
+AllKnown names v = EachThing (IsKnown names) (contents v)
 
 abbrev pub AllKnownIn : Named → List Value → Type 0
-AllKnownIn names vs = EachSemigroupOfAll (IsKnown names) (contents_of_all vs)
+AllKnownIn names vs = EachThingOfAll (IsKnown names) (contents_of_all vs)
 
--- the minimal list at a known place
-abbrev pub generators_at : Named → ℕ → List ℕ
-generators_at names i = unwrap_or (names i) []
+-- what stands where no place is known
+abbrev pub nothing : (k : Kind) → Things k
+nothing semigroups = []
+nothing ideals = record { ambient = []; generators = [] }
 
--- a value as plain data, with the minimal lists of semigroups
-abbrev pub plain : Named → Value → Data (List ℕ)
-plain names v = data_map (generators_at names) (contents v)
+-- the thing at a known place
+abbrev pub thing_at : Named → (k : Kind) → ℕ → Things k
+thing_at names k i = unwrap_or (names k i) (nothing k)
 
-abbrev pub plain_of_all : Named → List Value → Items (List ℕ)
-plain_of_all names vs = items_map (generators_at names) (contents_of_all vs)
+-- a value as plain data, with what its things are made of
+abbrev pub plain : Named → Value → Plain
+plain names v = data_map (thing_at names) (contents v)
 
--- no two known places stand for the same list
+abbrev pub plain_of_all : Named → List Value → Items Things
+plain_of_all names vs = items_map (thing_at names) (contents_of_all vs)
+
+-- no two known places of a kind stand for the same
 abbrev pub AreDistinct : Named → Type 0
-AreDistinct names = (i j : ℕ) (gens : List ℕ) → names i ≡ Some gens → names j ≡ Some gens → i ≡ j
+AreDistinct names = (k : Kind) (i j : ℕ) (thing : Things k) → names k i ≡ Some thing → names k j ≡ Some thing → i ≡ j
 
 -- each place known before stands for what it stood for
 abbrev pub IsKept : Named → Named → Type 0
-IsKept old new = (i : ℕ) (gens : List ℕ) → old i ≡ Some gens → new i ≡ Some gens
+IsKept old new = (k : Kind) (i : ℕ) (thing : Things k) → old k i ≡ Some thing → new k i ≡ Some thing
+
+-- the ideal at this place is one of the semigroup at that place
+abbrev pub IsAmbientOf : Named → ℕ → ℕ → Type 0
+IsAmbientOf names id ambient = names semigroups ambient ≡ Some (thing_at names ideals id).ambient
+
+-- these are the minimal generators of the ideal at this place
+abbrev pub AreGeneratorsOf : Named → ℕ → List ℤ → Type 0
+AreGeneratorsOf names id gens = gens ≡ (thing_at names ideals id).generators

@@ -1,8 +1,9 @@
 -- The text that `Print` writes for plain data.
-use Rattle.std.specs.Prelude.{ℕ, zero, suc, Bool, true, false, List, [], ◌∷◌, ◌++◌, codes, decimal, map, flat_map, if◌then◌else◌, ◌==◌, Result, OnOk, ◌≡◌}
+use Rattle.std.specs.Prelude.{ℕ, ℤ, zero, suc, Bool, true, false, List, [], ◌∷◌, ◌++◌, codes, decimal, map, flat_map, if◌then◌else◌, ◌==◌, Result, OnOk, ◌≡◌}
 use Rattle.std.specs.List.{join_by}
 use Rattle.std.specs.Fmt.{signed_decimal}
-use Rattle.sg_value.specs.Data.{Data, int, truth, text, list, fail, semigroup, Items, none, item}
+use Rattle.sg_value.specs.Data.{int, truth, text, list, fail, semigroup, ideal, Items, none, item}
+use Rattle.sg_value.specs.Plain.{Things, Plain, RelativeIdeal}
 
 -- a byte of a text in a list: the quote, the backslash, the line feed and the tab are written as two bytes
 abbrev pub escaped : ℕ → List ℕ
@@ -30,9 +31,17 @@ bracketed texts = codes "[ " ++ (joined texts ++ codes " ]")
 abbrev pub numbers_text : List ℕ → List ℕ
 numbers_text ns = bracketed (map decimal ns)
 
+-- a list of integers
+abbrev pub integers_text : List ℤ → List ℕ
+integers_text zs = bracketed (map signed_decimal zs)
+
 -- a numerical semigroup with these minimal generators
 abbrev pub semigroup_text : List ℕ → List ℕ
 semigroup_text gens = codes "NumericalSemigroup( " ++ (numbers_text gens ++ codes " )")
+
+-- a relative ideal: its minimal generators, moved by its ambient semigroup
+abbrev pub ideal_text : RelativeIdeal → List ℕ
+ideal_text i = integers_text i.generators ++ (codes " + " ++ semigroup_text i.ambient)
 
 abbrev pub bool_text : Bool → List ℕ
 bool_text true = codes "true"
@@ -40,20 +49,21 @@ bool_text false = codes "false"
 
 -- an entry of a list
 abbrev mutual
-  pub entry_text : Data (List ℕ) → List ℕ
+  pub entry_text : Plain → List ℕ
   entry_text (int z) = signed_decimal z
   entry_text (truth b) = bool_text b
   entry_text (text bs) = quoted bs
   entry_text (list ds) = bracketed (entry_texts ds)
   entry_text fail = codes "fail"
   entry_text (semigroup gens) = semigroup_text gens
+  entry_text (ideal i) = ideal_text i
 
-  pub entry_texts : Items (List ℕ) → List (List ℕ)
+  pub entry_texts : Items Things → List (List ℕ)
   entry_texts none = []
   entry_texts (item d ds) = entry_text d ∷ entry_texts ds
 
 -- an argument of Print: a text is written as it is
-abbrev pub text_of : Data (List ℕ) → List ℕ
+abbrev pub text_of : Plain → List ℕ
 text_of (text bs) = bs
 text_of d = entry_text d
 

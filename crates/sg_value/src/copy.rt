@@ -18,6 +18,7 @@ pub fn try_clone(v: &Value, alloc: Global) -> Result<Value, AllocError>
         Value::List(items) => Ok(Value::List(copy_of_all(items, alloc)?)),
         Value::Fail => Ok(Value::Fail),
         Value::Sem(id) => Ok(Value::Sem(*id)),
+        Value::Ideal(id) => Ok(Value::Ideal(*id)),
     }
 }
 

@@ -5,7 +5,7 @@ ghost use Rattle.sg_value.specs.Plain.{contents, contents_of_all};
 
 use crate::value::Value;
 
-/// Whether two values are of one kind and have the same contents, semigroups by their ids. It takes no memory.
+/// Whether two values are of one kind and have the same contents, semigroups and ideals by their ids. It takes no memory.
 #[cycle(equal)]
 pub fn equal(a: &Value, b: &Value) -> bool
     ensures { IsTrue result ↔ (contents a.now ≡ contents b.now) }
@@ -17,6 +17,7 @@ pub fn equal(a: &Value, b: &Value) -> bool
         (Value::List(m), Value::List(n)) => all_equal(m, n),
         (Value::Fail, Value::Fail) => true,
         (Value::Sem(m), Value::Sem(n)) => m.index() == n.index(),
+        (Value::Ideal(m), Value::Ideal(n)) => m.index() == n.index(),
         _ => false,
     }
 }

@@ -1,8 +1,8 @@
 //! The values of scripts: how large they are, when they are equal, and the text that `Print` writes for them.
 //!
-//! A value holds a semigroup by its place in a store. Contracts see a value as plain data, in two ways: `contents v`
-//! has the places, and `plain names v` has the minimal list that each place stands for, and no store, place, capacity
-//! or allocator. Each meaning here (weight, depth, printed text) is a function of plain data.
+//! A value holds a semigroup or an ideal by its place in a store. Contracts see a value as plain data, in two ways:
+//! `contents v` has the places, and `plain names v` has the minimal lists that they stand for, and no store, place,
+//! capacity or allocator. Each meaning here (weight, depth, printed text) is a function of plain data.
 //!
 //! The layer above uses: `equal` is equality of contents, and over one store of plain values (`laws`); `print_into`
 //! appends the text of the plain value, where each place in it is known to the names.
@@ -22,7 +22,7 @@ mod value;
 
 pub use copy::try_clone;
 pub use equality::equal;
-pub use id::SemId;
+pub use id::{IdealId, SemId};
 pub use names::Names;
 pub use print::print_into;
 pub use size::{depth, weight};

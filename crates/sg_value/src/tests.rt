@@ -2,22 +2,31 @@
 
 ghost use Rattle.std.specs.Prelude.{Some};
 
-use crate::{Names, SemId, Value, depth, equal, print_into, try_clone, weight};
-use sg_nat::{Bytes, Nats};
+use crate::{IdealId, Names, SemId, Value, depth, equal, print_into, try_clone, weight};
+use sg_nat::{Bytes, Ints, Nats};
 use std::alloc::{AllocError, Global};
 use std::io;
 
-/// Names that know every id, and give it the same generators.
+/// Names that know every id, and give each semigroup, and each ideal, the same generators.
 #[derive(Drop)]
 struct OneSemigroup {
     generators: Nats,
+    ideal: Ints,
 }
 
 impl Names for OneSemigroup {
-    ghost generators = { λ names i. Some names.generators };
+    ghost named = { λ names. every_place names.generators names.ideal };
 
     fn semigroup(&self, _id: SemId) -> &Nats {
         &self.generators
+    }
+
+    fn ideal_ambient(&self, _id: IdealId) -> SemId {
+        SemId::new(0)
+    }
+
+    fn ideal_generators(&self, _id: IdealId) -> &Ints {
+        &self.ideal
     }
 }
 
@@ -25,6 +34,7 @@ impl Names for OneSemigroup {
 fn printed(alloc: Global, v: &Value) -> Result<Bytes, AllocError> {
     let names = OneSemigroup {
         generators: Nats::from_slice(alloc, &[3, 5])?,
+        ideal: Ints::from_slice(alloc, &[-1, 0])?,
     };
     let mut out = Bytes::new(alloc);
     print_into(v, &names, &mut out)?;
@@ -53,6 +63,10 @@ fn texts(rt: HostRuntime) -> io::Result<()> {
         (Value::Bool(false), "false"),
         (Value::Fail, "fail"),
         (Value::Sem(SemId::new(0)), "NumericalSemigroup( [ 3, 5 ] )"),
+        (
+            Value::Ideal(IdealId::new(0)),
+            "[ -1, 0 ] + NumericalSemigroup( [ 3, 5 ] )"
+        ),
         (text(alloc, b"a\"b\\c\nd\te")?, "a\"b\\c\nd\te"),
         (Value::List(Vec::new(alloc)), "[  ]"),
         (Value::List(numbers), "[ -1, 0, 12 ]"),

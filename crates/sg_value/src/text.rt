@@ -1,8 +1,9 @@
 //! The parts of printed text that hold no value. Each call puts its text at the end of `out`, and where it is refused
 //! memory a front of it.
 
+ghost use Rattle.std.specs.Fmt.{signed_decimal};
 ghost use Rattle.std.specs.Prelude.{◌++◌, decimal, flat_map, map};
-ghost use Rattle.sg_value.specs.Text.{Adds, escaped, quoted, joined, separator, numbers_text, semigroup_text};
+ghost use Rattle.sg_value.specs.Text.{Adds, escaped, quoted, joined, separator, numbers_text, integers_text, ideal_text, semigroup_text};
 
 use itoa::Buffer;
 use sg_nat::Bytes;
@@ -86,4 +87,38 @@ fn add_separated_number(index: usize, number: u64, out: &mut Bytes) -> Result<()
 {
     add_separator(index, out)?;
     add(Buffer::new().format(number).as_bytes(), out)
+}
+
+/// The ideal with these minimal generators, of the semigroup with those.
+pub fn add_ideal_of(generators: &[i64], ambient: &[u64], out: &mut Bytes) -> Result<(), AllocError>
+    ensures { Adds result out.old out.new (ideal_text (record { ambient = ambient.now; generators = generators.now })) }
+{
+    add_integers(generators, out)?;
+    add(b" + ", out)?;
+    add_semigroup(ambient, out)
+}
+
+/// A list of integers.
+fn add_integers(numbers: &[i64], out: &mut Bytes) -> Result<(), AllocError>
+    ensures { Adds result out.old out.new (integers_text numbers.now) }
+{
+    add(b"[ ", out)?;
+    add_each_integer(numbers, out)?;
+    add(b" ]", out)
+}
+
+fn add_each_integer(numbers: &[i64], out: &mut Bytes) -> Result<(), AllocError>
+    ensures { Adds result out.old out.new (joined (map signed_decimal numbers.now)) }
+{
+    for (i, number) in numbers.iter().enumerate() {
+        add_separated_integer(i, number, out)?;
+    }
+    Ok(())
+}
+
+fn add_separated_integer(index: usize, number: &i64, out: &mut Bytes) -> Result<(), AllocError>
+    ensures { Adds result out.old out.new (separator index ++ signed_decimal number.now) }
+{
+    add_separator(index, out)?;
+    add(Buffer::new().format(*number).as_bytes(), out)
 }

@@ -1,6 +1,6 @@
 //! What an expression gives.
 
-use crate::id::SemId;
+use crate::id::{IdealId, SemId};
 use sg_nat::Bytes;
 
 /// The value of an expression.
@@ -23,4 +23,7 @@ pub enum Value {
 
     /// A numerical semigroup, by its place in a store.
     Sem(SemId),
+
+    /// A relative ideal of a numerical semigroup, by its place in a store.
+    Ideal(IdealId),
 }

@@ -1,4 +1,5 @@
 use Rattle.std.proofs.Common.{◌≡◌, true, length, sym, ◌∙◌, subst, slice_get, rules}
+use Rattle.sg_value.specs.Known.{named}
 use Rattle.std.proofs.lemmas.Bool.{eqb-true}
 use Rattle.sg_rows.specs.Replies.{Replies}
 use Rattle.sg_rows.proofs.Counted.{at_two, at_three}
@@ -11,7 +12,7 @@ use Rattle.sg_calls.proofs.calls.perform.Goals as goal
 
 pub returns-in-ProportionallyModularNumericalSemigroup-clause-reply : goal.returns-in-ProportionallyModularNumericalSemigroup-clause-reply
 returns-in-ProportionallyModularNumericalSemigroup-clause-reply c =
-    let names = slice_get c.args.store.now in
+    let names = named c.args.store.now in
     let vs = c.args.args.now in
     let x = c.index-args-0-in-ProportionallyModularNumericalSemigroup in
     let y = c.index-args-1-in-ProportionallyModularNumericalSemigroup in
@@ -22,7 +23,7 @@ returns-in-ProportionallyModularNumericalSemigroup-clause-reply c =
 
 pub returns-in-QuotientOfNumericalSemigroup-clause-reply : goal.returns-in-QuotientOfNumericalSemigroup-clause-reply
 returns-in-QuotientOfNumericalSemigroup-clause-reply c =
-    let names = slice_get c.args.store.now in
+    let names = named c.args.store.now in
     let vs = c.args.args.now in
     let x = c.index-args-0-in-QuotientOfNumericalSemigroup in
     let y = c.index-args-1-in-QuotientOfNumericalSemigroup in

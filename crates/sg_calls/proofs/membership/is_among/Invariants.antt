@@ -1,8 +1,9 @@
 use Rattle.std.proofs.Common.{◌↔◌, drop, slice_get}
+use Rattle.sg_value.specs.Known.{named}
 use Rattle.sg_value.specs.Plain.{plain, plain_of_all}
 use Rattle.sg_rows.specs.Words.{IsEntry}
 use Rattle.sg_calls.proofs.membership.is_among.Given as goal
 
 -- it stands here or later, or nowhere
 abbrev pub invariant-loop-entry : goal.invariant-loop-entry
-invariant-loop-entry l = IsEntry (plain (slice_get l.store) l.v) (plain_of_all (slice_get l.store) (drop l.entry-index l.entries)) ↔ IsEntry (plain (slice_get l.store) l.v) (plain_of_all (slice_get l.store) l.entries)
+invariant-loop-entry l = IsEntry (plain (named l.store) l.v) (plain_of_all (named l.store) (drop l.entry-index l.entries)) ↔ IsEntry (plain (named l.store) l.v) (plain_of_all (named l.store) l.entries)

@@ -1,10 +1,11 @@
 use Rattle.std.proofs.Common.{◌≡◌, ◌↔◌, Some, Ok, IsTrue, sym, ◌∙◌, subst, slice_get, rules}
+use Rattle.sg_value.specs.Known.{named}
 use Rattle.std.specs.Prelude.{FitsSigned}
 use Rattle.std.specs.Int.{w64}
 use mir.Val.{to_z, of_z}
 use Rattle.std.proofs.lemmas.Int.{to_z-of_z}
 use Rattle.sg_defs.specs.Membership.{IsIntegerMember}
-use Rattle.sg_value.specs.Plain.{plain, contents, generators_at}
+use Rattle.sg_value.specs.Plain.{plain, contents, thing_at}
 use Rattle.sg_rows.specs.Order.{fits}
 use Rattle.sg_rows.specs.Kinds.{given, answers, whether}
 use Rattle.sg_rows.specs.Replies.{Replies}
@@ -15,7 +16,7 @@ pub returns-clause-reply : goal.returns-clause-reply
 returns-clause-reply c = λ gens at.
     let store = c.args.store.now in
     let x = c.in-Some.x in
-    let seen = as_integer-plain (generators_at (slice_get store)) (contents c.args.v.now) ∙ sym c.in-Some.ensures in
+    let seen = as_integer-plain (thing_at (named store)) (contents c.args.v.now) ∙ sym c.in-Some.ensures in
     let fit : FitsSigned w64 x = search rules in
     let held : Some c.in_ok-table.table.value ≡ Some gens = sym c.in_ok-table.ensures.table ∙ at in
     let same : c.deref.result.now ≡ gens = c.deref.ensures ∙ (let e : c.in_ok-table.table.value ≡ gens = cc in e) in

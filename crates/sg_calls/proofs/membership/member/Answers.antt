@@ -1,7 +1,8 @@
 use Rattle.std.proofs.Common.{◌≡◌, ℕ, List, Option, Some, None, IsSome, Ok, refl, ap, sym, ◌∙◌, subst, slice_get}
+use Rattle.sg_value.specs.Known.{named}
 use Rattle.std.specs.Option.{option_map}
-use Rattle.sg_value.specs.Data.{items_map}
-use Rattle.sg_value.specs.Plain.{plain, plain_of_all, contents, generators_at}
+use Rattle.sg_value.specs.Data.{items_map, semigroups}
+use Rattle.sg_value.specs.Plain.{plain, plain_of_all, contents, thing_at}
 use Rattle.sg_rows.specs.Kinds.{as_semigroup}
 use Rattle.sg_rows.specs.Words.{IsEntry}
 use Rattle.sg_rows.specs.Replies.{Replies}
@@ -13,12 +14,12 @@ use Rattle.sg_calls.proofs.membership.member.Goals as goal
 pub returns-in-Some-clause-reply : goal.returns-in-Some-clause-reply
 returns-in-Some-clause-reply c =
     let store = c.args.store.now in
-    let f = generators_at (slice_get store) in
-    let d = plain (slice_get store) c.args.v.now in
+    let f = thing_at (named store) in
+    let d = plain (named store) c.args.v.now in
     let entries = c.in-Some.entries.now in
     let seen = as_list-plain f (contents c.args.whole.now) ∙ ap (option_map (items_map f)) c.in-Some.ensures in
-    subst (λ o. Replies (Ok c.truth.result) store (membership d o (as_semigroup (plain (slice_get store) c.args.whole.now)))) (sym seen)
-    (replies_truth store c.is_among.result c.truth.result (IsEntry d (plain_of_all (slice_get store) entries)) c.truth.ensures c.is_among.ensures)
+    subst (λ o. Replies (Ok c.truth.result) store (membership d o (as_semigroup (plain (named store) c.args.whole.now)))) (sym seen)
+    (replies_truth store c.is_among.result c.truth.result (IsEntry d (plain_of_all (named store) entries)) c.truth.ensures c.is_among.ensures)
 
 some_of : {A : Type 0} (o : Option A) → IsSome o → (a : A) × (o ≡ Some a)
 some_of None h = absurd (cc)
@@ -26,13 +27,13 @@ some_of (Some a) h = (a, refl)
 
 pub returns-clause-reply : goal.returns-clause-reply
 returns-clause-reply c =
-    let names = slice_get c.args.store.now in
-    let f = generators_at names in
+    let names = named c.args.store.now in
+    let f = thing_at names in
     let d = plain names c.args.v.now in
     let whole = c.args.whole.now in
     let id = c.in-Some-semigroup_of.id in
     let is : as_semigroup (contents whole) ≡ Some id = sym c.semigroup_of.ensures ∙ c.in-Some-semigroup_of.is in
-    let held : (gens : List ℕ) × (names id ≡ Some gens) = some_of (names id) (known_semigroup names whole id c.requires.whole is) in
+    let held : (gens : List ℕ) × (names semigroups id ≡ Some gens) = some_of (names id) (known_semigroup names whole id c.requires.whole is) in
     let no_list = as_list-plain f (contents whole) ∙ ap (option_map (items_map f)) c.in_default.ensures in
     subst (λ o. Replies c.is_member.result c.is_member.new.store (membership d o (as_semigroup (plain names whole)))) (sym no_list)
     (subst (λ o. Replies c.is_member.result c.is_member.new.store (membership d None o)) (sym (plain_semigroup names whole id held.0 is held.1)) (c.is_member.ensures.reply held.0 held.1))

@@ -1,8 +1,9 @@
 use Rattle.std.proofs.Common.{◌≡◌, pos, ◌-ℤ◌, sym, ◌∙◌, subst, slice_get, rules}
+use Rattle.sg_value.specs.Known.{named}
 use Rattle.std.specs.Prelude.{FitsSigned, SomeIff}
 use Rattle.std.specs.Int.{w64}
 use Rattle.sg_value.specs.Data.{int}
-use Rattle.sg_value.specs.Plain.{contents, generators_at}
+use Rattle.sg_value.specs.Plain.{contents, thing_at}
 use Rattle.sg_rows.specs.Order.{fits}
 use Rattle.sg_rows.specs.Kinds.{given, answers}
 use Rattle.sg_rows.specs.Replies.{Replies}
@@ -13,6 +14,6 @@ use Rattle.sg_calls.proofs.operations.negate.Goals as goal
 pub returns : goal.returns
 returns c = λ store.
     let x = c.in-Some.x in
-    let seen = as_integer-plain (generators_at (slice_get store)) (contents c.args.a.now) ∙ sym c.in-Some.ensures in
+    let seen = as_integer-plain (thing_at (named store)) (contents c.args.a.now) ∙ sym c.in-Some.ensures in
     subst (λ o. Replies c.integer.result store (given o (λ z. fits (answers (λ d. d ≡ int (pos 0 -ℤ z)))))) (sym seen)
     (c.integer.ensures store (pos 0 -ℤ x) (of_bits_right (λ z. SomeIff c.checked_sub.result (FitsSigned w64 (pos 0 -ℤ z)) (pos 0 -ℤ z)) x (search rules) c.checked_sub.ensures))

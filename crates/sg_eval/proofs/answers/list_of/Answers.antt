@@ -1,4 +1,5 @@
 use Rattle.std.proofs.Common.{◌≡◌, List, Result, Ok, Err, slice_get, refl, sym, subst}
+use Rattle.sg_value.specs.Known.{named}
 use Rattle.sg_value.specs.Data.{list}
 use Rattle.sg_value.specs.Plain.{AllKnown, AllKnownIn, plain, plain_of_all}
 use Rattle.sg_value.specs.declared.value.Value.{Value}
@@ -18,7 +19,7 @@ use Rattle.sg_eval.proofs.Measured.{listing, too_deep, too_heavy, within_limits}
 use Rattle.sg_eval.proofs.answers.list_of.Goals as goal
 
 -- a list that was asked for
-listed_so : (r : Result Value CallFault) (vs : List Value) (s : State) → AllKnownIn (slice_get s.names) vs → Replies r s.names (listing s.names vs) → Evaluates plain AllKnown r s s (λ names. ask (lists (plain_of_all names vs)))
+listed_so : (r : Result Value CallFault) (vs : List Value) (s : State) → AllKnownIn (named s.names) vs → Replies r s.names (listing s.names vs) → Evaluates plain AllKnown r s s (λ names. ask (lists (plain_of_all names vs)))
 listed_so r vs s is_known h =
     evaluates_reply r s s (listing s.names vs) (λ names. lists (plain_of_all names vs)) (keeps_all s.names) refl refl
     (λ final later t g. subst (λ ds. IsReply (fits (answers (λ d. d ≡ list ds))) t) (sym (plain_of_all_later s.names final vs later is_known)) g) h

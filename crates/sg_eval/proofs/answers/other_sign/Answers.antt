@@ -1,4 +1,5 @@
 use Rattle.std.proofs.Common.{slice_get, refl, sym, subst}
+use Rattle.sg_value.specs.Known.{named}
 use Rattle.sg_value.specs.Plain.{plain}
 use Rattle.sg_rows.specs.Order.{IsReply}
 use Rattle.sg_calls.specs.Operations.{negation}
@@ -8,5 +9,5 @@ use Rattle.sg_eval.proofs.answers.other_sign.Goals as goal
 
 pub returns : goal.returns
 returns c = λ s is_known.
-    evaluates_reply c.negate.result s s (negation (plain (slice_get s.names) c.args.v.now)) (λ names. negates (plain names c.args.v.now)) (keeps_all s.names) refl refl
+    evaluates_reply c.negate.result s s (negation (plain (named s.names) c.args.v.now)) (λ names. negates (plain names c.args.v.now)) (keeps_all s.names) refl refl
     (λ final later t h. subst (λ d. IsReply (negation d) t) (sym (plain_later s.names final c.args.v.now later is_known)) h) (c.negate.ensures s.names)

@@ -1,4 +1,5 @@
 use Rattle.std.proofs.Common.{◌≡◌, get_or, rules, ◌+◌, ◌∷◌, Ok, Err, Some, None, true, false, length, drop, slice_get, refl, ap, sym, ◌∙◌, subst}
+use Rattle.sg_value.specs.Known.{named}
 use Rattle.sg_value.specs.Data.{truth}
 use Rattle.sg_value.specs.Plain.{AllKnown, AllKnownIn, plain, plain_of_all}
 use Rattle.sg_tree.specs.Tree.{call, variable, display, span, item, minus, negation, chain, compare}
@@ -249,7 +250,7 @@ named_item-returns-in-Some t c =
     let inv = c.loop-place.invariant in
     let x = c.args.name.now in
     let v = c.in-Some.found in
-    let is_known = subst (known_if (slice_get s.names)) c.in-Some.is inv.known in
+    let is_known = subst (known_if (named s.names)) c.in-Some.is inv.known in
     inv.reached (Ok v) s (subst (λ es. Evaluates plain AllKnown (Ok v) s s (λ names. items_from ps x (plain_if names c.loop-place.value) (trees_of es))) (sym (drop_all c.loop-place.place-index c.args.places.now c.loop-place-test.false))
     (subst (λ o. Evaluates plain AllKnown (Ok v) s s (λ names. items_from ps x (plain_if names o) no_trees)) (sym c.in-Some.is)
     (evaluates_gives plain AllKnown v s (λ names. plain names v) is_known (λ final later. refl))))
@@ -384,7 +385,7 @@ eval_all-loop-e-init t c =
     let s = state_of c.args.machine.now in
     let ts = trees_of c.args.es.now in
     record {
-      known = subst (AllKnownIn (slice_get s.names)) (sym c.new-values.ensures.items) tt;
+      known = subst (AllKnownIn (named s.names)) (sym c.new-values.ensures.items) tt;
       same = refl;
       reached = λ r s2 h. evaluates_as plain_in known_in r s s2 (λ names. after_front s.parameters ts (plain_of_all names c.new-values.result.items)) (λ names. eval_all s.parameters ts)
           (λ names. front_none s.parameters ts names c.new-values.result.items c.new-values.ensures.items) h;
@@ -427,7 +428,7 @@ eval_all-loop-e-preserved t c =
     let v = c.in_ok-value.value in
     let h = c.in_ok-value.ensures in
     record {
-      known = all_known_more (slice_get s1.names) vs ws v c.in_ok-put.ensures (all_known_later s.names s1.names vs h.keeps inv.known) h.is_known;
+      known = all_known_more (named s1.names) vs ws v c.in_ok-put.ensures (all_known_later s.names s1.names vs h.keeps inv.known) h.is_known;
       same = h.parameters ∙ inv.same;
       reached = λ r s2 g. inv.reached r s2 (subst (λ ts. Evaluates plain_in known_in r s s2 (λ names. after_front ps ts (plain_of_all names vs))) (sym (trees_of-drop es i e c.loop-e-test.true c.e-item.is))
           (value_then ps s s1 (tree_of e) (trees_of (drop (i + 1) es)) vs inv.same v ws r s2 c.in_ok-put.ensures h g));
@@ -661,7 +662,7 @@ given-loop-arg-init t c =
     let s = state_of c.args.machine.now in
     let args = arguments_of c.args.args.now in
     record {
-      known = subst (AllKnownIn (slice_get s.names)) (sym c.new.ensures.items) tt;
+      known = subst (AllKnownIn (named s.names)) (sym c.new.ensures.items) tt;
       same = refl;
       count = ap length c.new.ensures.items;
       reached = λ r s2 h. evaluates_as plain_where known_where r s s2 (λ names. after_given s.parameters args (plain_where names (Some c.new.result))) (λ names. eval_given s.parameters args)
@@ -705,7 +706,7 @@ given-loop-arg-preserved t c =
     let h = c.in_ok-found.ensures in
     let is = c.in_ok-values.ensures in
     record {
-      known = known_with (slice_get s1.names) o f p is (known_where_later s.names s1.names o h.keeps inv.known) h.is_known;
+      known = known_with (named s1.names) o f p is (known_where_later s.names s1.names o h.keeps inv.known) h.is_known;
       same = h.parameters ∙ inv.same;
       count = count_with o f p i is inv.count;
       reached = λ r s2 g. inv.reached r s2 (subst (λ xs. Evaluates plain_where known_where r s s2 (λ names. after_given ps xs (plain_where names o))) (sym (arguments_of-drop all i a c.loop-arg-test.true c.arg-item.is))
@@ -752,7 +753,7 @@ call-returns-in-None t c =
 pub apply-unbind-requires : goal.apply-unbind-requires
 apply-unbind-requires t c =
     let s = state_of c.args.machine.now in
-    ((c.args.parameter.now, plain (slice_get s.names) c.in_ok-copy.copy), s.parameters, c.in_ok-value.ensures.parameters ∙ c.in_ok-bind.ensures.ok)
+    ((c.args.parameter.now, plain (named s.names) c.in_ok-copy.copy), s.parameters, c.in_ok-value.ensures.parameters ∙ c.in_ok-bind.ensures.ok)
 
 pub apply-returns : goal.apply-returns
 apply-returns t c =
@@ -767,9 +768,9 @@ apply-returns t c =
     let h = c.in_ok-value.ensures in
     let bound = c.in_ok-bind.ensures.ok in
     evaluates_later plain AllKnown (Ok c.in_ok-value.value) s s3 (λ names. eval s1.parameters tree) (λ names. eval ((x, plain names v) ∷ s.parameters) tree)
-    (λ final later. ap (λ ps. eval ps tree) (bound ∙ ap (λ d. (x, d) ∷ s.parameters) (copy_plain (slice_get s.names) v w c.in_ok-copy.ensures ∙ sym (plain_later s.names final v later c.requires))))
+    (λ final later. ap (λ ps. eval ps tree) (bound ∙ ap (λ d. (x, d) ∷ s.parameters) (copy_plain (named s.names) v w c.in_ok-copy.ensures ∙ sym (plain_later s.names final v later c.requires))))
     (evaluates_bound plain AllKnown c.in_ok-value.value s s1 s2 s3 (λ names. eval s1.parameters tree) c.in_ok-bind.ensures.names c.in_ok-bind.ensures.variables h c.unbind.ensures.names c.unbind.ensures.variables
-    (c.unbind.ensures.parameters (x, plain (slice_get s.names) w) s.parameters (h.parameters ∙ bound)))
+    (c.unbind.ensures.parameters (x, plain (named s.names) w) s.parameters (h.parameters ∙ bound)))
 
 pub apply-returns-in_err-value : goal.apply-returns-in_err-value
 apply-returns-in_err-value t c =
@@ -783,7 +784,7 @@ apply-returns-in_err-value t c =
     let r = c.from_residual-in_err-value.result in
     let bound = c.in_ok-bind.ensures.ok in
     evaluates_later plain AllKnown r s s2 (λ names. eval s1.parameters tree) (λ names. eval ((x, plain names v) ∷ s.parameters) tree)
-    (λ final later. ap (λ ps. eval ps tree) (bound ∙ ap (λ d. (x, d) ∷ s.parameters) (copy_plain (slice_get s.names) v w c.in_ok-copy.ensures ∙ sym (plain_later s.names final v later c.requires))))
+    (λ final later. ap (λ ps. eval ps tree) (bound ∙ ap (λ d. (x, d) ∷ s.parameters) (copy_plain (named s.names) v w c.in_ok-copy.ensures ∙ sym (plain_later s.names final v later c.requires))))
     (evaluates_bound_exit plain AllKnown plain AllKnown r _ s s1 s2 (λ names. eval s1.parameters tree) c.in_ok-bind.ensures.names c.in_ok-bind.ensures.variables c.from_residual-in_err-value.ensures.1 c.in_err-value.ensures)
 
 pub eval-returns-in-Call : goal.eval-returns-in-Call
@@ -875,7 +876,7 @@ fold_call-returns-in_err-entries-in-Arrow t c =
 pub fold_call-folded-requires : goal.fold_call-folded-requires
 fold_call-folded-requires t c =
     let s1 = state_of c.argument.new.machine in
-    (search (rules, argument_lemmas, the_lemmas), subst (AllKnownIn (slice_get s1.names)) (sym c.deref.ensures.value) (c.in_ok-entries-in-Arrow.ensures s1 c.in_ok-first.ensures.is_known).is_known)
+    (search (rules, argument_lemmas, the_lemmas), subst (AllKnownIn (named s1.names)) (sym c.deref.ensures.value) (c.in_ok-entries-in-Arrow.ensures s1 c.in_ok-first.ensures.is_known).is_known)
 
 pub fold_call-returns-in_ok-entries-in-Arrow : goal.fold_call-returns-in_ok-entries-in-Arrow
 fold_call-returns-in_ok-entries-in-Arrow t c =
@@ -905,7 +906,7 @@ fold_call-returns-in_ok-entries-in-Arrow t c =
 
 pub folded-apply-requires : goal.folded-apply-requires
 folded-apply-requires t c =
-    (search rules, known_at (slice_get c.loop-entry.machine.store) c.args.entries.now c.loop-entry.entry-index c.entry-item.result c.loop-entry-test.true c.entry-item.is c.loop-entry.invariant.entries)
+    (search rules, known_at (named c.loop-entry.machine.store) c.args.entries.now c.loop-entry.entry-index c.entry-item.result c.loop-entry-test.true c.entry-item.is c.loop-entry.invariant.entries)
 
 pub folded-loop-entry-init : goal.folded-loop-entry-init
 folded-loop-entry-init t c =
@@ -914,7 +915,7 @@ folded-loop-entry-init t c =
     let vs = c.args.entries.now in
     record {
       entries = c.requires;
-      known = subst (AllKnownIn (slice_get s.names)) (sym c.new-gathered.ensures.items) tt;
+      known = subst (AllKnownIn (named s.names)) (sym c.new-gathered.ensures.items) tt;
       same = refl;
       reached = λ r s2 h. subst (λ ws. Evaluates plain AllKnown r s s2 (λ names. fold_on c.args.fold over (plain_of_all names ws) (plain_of_all names vs))) c.new-gathered.ensures.items h;
     }
@@ -998,7 +999,7 @@ folded-loop-entry-preserved t c =
     let entries = all_known_later s.names s1.names all h.keeps inv.entries in
     record {
       entries = entries;
-      known = gathered_known (slice_get s1.names) c.args.fold vs ws v w c.in_ok-gather.ensures (all_known_later s.names s1.names vs h.keeps inv.known) (known_at (slice_get s1.names) all i v c.loop-entry-test.true c.entry-item.is entries) h.is_known;
+      known = gathered_known (named s1.names) c.args.fold vs ws v w c.in_ok-gather.ensures (all_known_later s.names s1.names vs h.keeps inv.known) (known_at (named s1.names) all i v c.loop-entry-test.true c.entry-item.is entries) h.is_known;
       same = h.parameters ∙ inv.same;
       reached = λ r s2 g. inv.reached r s2 (evaluates_as plain AllKnown r s s2 (λ names. fold_on c.args.fold over (plain_of_all names vs) (item_of (plain names v) (plain_of_all names (drop (i + 1) all)))) (λ names. fold_on c.args.fold over (plain_of_all names vs) (plain_of_all names (drop i all)))
           (λ names. ap (fold_on c.args.fold over (plain_of_all names vs)) (sym (plain_of_all-drop names all i v c.loop-entry-test.true c.entry-item.is)))

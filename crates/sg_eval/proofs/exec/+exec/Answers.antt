@@ -1,4 +1,5 @@
 use Rattle.std.proofs.Common.{◌≡◌, ◌+◌, ◌<◌, ◌≤◌, Ok, Err, [], true, false, Bool, drop, slice_get, refl, ap, sym, ◌∙◌, subst, arith}
+use Rattle.sg_value.specs.Known.{named}
 use Rattle.std.specs.Prelude.{if◌then◌else◌}
 use Rattle.std.proofs.lemmas.List.{drop_all}
 use Rattle.sg_value.specs.Plain.{AllKnownIn, plain, plain_of_all}
@@ -44,7 +45,7 @@ exec-repeat-requires g t c κs within =
         within,
         (
           c.in_ok-entries-in-For.ensures.parameters ∙ c.requires,
-          subst (AllKnownIn (slice_get s1.names)) (sym c.deref-in-For-2.ensures.value) c.in_ok-entries-in-For.ensures.is_known,
+          subst (AllKnownIn (named s1.names)) (sym c.deref-in-For-2.ensures.value) c.in_ok-entries-in-For.ensures.is_known,
         ),
       ),
     )
@@ -143,8 +144,8 @@ exec-returns-in_ok-entries-in-For-clause-done g t c =
     let body = block_of c.in-For.body.items in
     let vs = c.in_ok-entries-in-For.entries in
     let r = c.repeat.result in
-    let did = subst (λ ws. Executed r s1 s2 o o2 (over (λ e. sets x e (exec_all body)) (plain_of_all (slice_get s1.names) ws))) c.deref-in-For-2.ensures.value
-    (subst (λ ss. Executed r s1 s2 o o2 (over (λ e. sets x e (exec_all (block_of ss))) (plain_of_all (slice_get s1.names) c.deref-in-For-2.result.now))) c.deref-in-For.ensures.value c.repeat.ensures.done) in
+    let did = subst (λ ws. Executed r s1 s2 o o2 (over (λ e. sets x e (exec_all body)) (plain_of_all (named s1.names) ws))) c.deref-in-For-2.ensures.value
+    (subst (λ ss. Executed r s1 s2 o o2 (over (λ e. sets x e (exec_all (block_of ss))) (plain_of_all (named s1.names) c.deref-in-For-2.result.now))) c.deref-in-For.ensures.value c.repeat.ensures.done) in
     subst (λ k. Executed r s s2 o o2 (exec k)) (sym (ap code_of c.in-For.is ∙ view-For x c.in-For.e c.in-For.body))
     (executed_as (listed_of [] list >>= over (λ e. sets x e (exec_all body))) _ r s s2 o o2 (each_step x list body)
     (executed_value plain_in known_in (listed_of [] list) (over (λ e. sets x e (exec_all body))) vs r s s1 s2 o o2
@@ -301,7 +302,7 @@ repeat-loop-entry-init g t c = record { outside = c.requires.parameters; known =
 
 pub repeat-set-requires : goal.repeat-set-requires
 repeat-set-requires g t c =
-    let names = slice_get c.loop-entry.machine.store in
+    let names = named c.loop-entry.machine.store in
     record { known = copy_known names c.entry-item.result c.in_ok-try_clone.field-0 c.in_ok-try_clone.ensures (known_at names c.args.entries.now c.loop-entry.entry-index c.entry-item.result c.loop-entry-test.true c.entry-item.is c.loop-entry.invariant.known) }
 
 pub repeat-exec_all-requires : goal.repeat-exec_all-requires
@@ -337,7 +338,7 @@ repeat-returns-in_err-exec_all-clause-done g t c =
     let o2 = g.W.Sink.taken c.exec_all.new.out in
     let r = c.from_residual-in_err-exec_all.result in
     let e = c.in_err-exec_all.field-0.0 in
-    let names = slice_get s.names in
+    let names = named s.names in
     let d = plain names v in
     let rest = plain_of_all names (drop (i + 1) all) in
     let change = c.in_ok-set.ensures.ok ∙ ap (λ k. with_value x k s.variables) (copy_plain names v w c.in_ok-try_clone.ensures) in
@@ -358,7 +359,7 @@ repeat-loop-entry-preserved g t c =
     let s2 = state_of c.exec_all.new.machine in
     let o = g.W.Sink.taken c.loop-entry.out in
     let o2 = g.W.Sink.taken c.exec_all.new.out in
-    let names = slice_get s.names in
+    let names = named s.names in
     let d = plain names v in
     let left = drop (i + 1) all in
     let rest = plain_of_all names left in
@@ -381,4 +382,4 @@ repeat-returns-clause-done g t c =
     let s = state_of c.loop-entry.machine in
     let o = g.W.Sink.taken c.loop-entry.out in
     let body = exec_all (block_of c.args.body.now) in
-    c.loop-entry.invariant.reached (Ok tt) s o (subst (λ vs. Executed (Ok tt) s s o o (over (λ k. sets c.args.name.now k body) (plain_of_all (slice_get s.names) vs))) (sym (drop_all c.loop-entry.entry-index c.args.entries.now c.loop-entry-test.false)) (executed_gives tt s o c.loop-entry.invariant.outside))
+    c.loop-entry.invariant.reached (Ok tt) s o (subst (λ vs. Executed (Ok tt) s s o o (over (λ k. sets c.args.name.now k body) (plain_of_all (named s.names) vs))) (sym (drop_all c.loop-entry.entry-index c.args.entries.now c.loop-entry-test.false)) (executed_gives tt s o c.loop-entry.invariant.outside))

@@ -1,4 +1,5 @@
 use Rattle.sg_tree.proofs.stmt.Stmt.TheLaws.{the_size}
+use Rattle.sg_value.specs.Known.{named}
 use Rattle.sg_eval.proofs.Sizes.{block_size, arms_size}
 use Rattle.std.proofs.Common.{◌≡◌, ◌≤◌, ◌+◌, ◌*◌, ℕ, List, [], Bool, Option, Result, drop, slice_get}
 use Rattle.sg_value.specs.Plain.{AllKnownIn, plain_of_all}
@@ -41,10 +42,10 @@ invariant-repeat-loop-entry g l =
     let sink = g.W.Sink in
     record {
       outside : (state_of l.machine).parameters ≡ [];
-      known : AllKnownIn (slice_get (state_of l.machine).names) l.entries;
+      known : AllKnownIn (named (state_of l.machine).names) l.entries;
       reached : (r : Result (Unit {0}) StepFault) (s : State) (o : Option (List ℕ))
-          → Executed r (state_of l.machine) s (sink.taken l.out) o (over (λ e. sets l.name e (exec_all (block_of l.body))) (plain_of_all (slice_get (state_of l.machine).names) (drop l.entry-index l.entries)))
-          → Executed r (state_of l.fn.machine) s (sink.taken l.fn.out) o (over (λ e. sets l.name e (exec_all (block_of l.body))) (plain_of_all (slice_get (state_of l.fn.machine).names) l.entries));
+          → Executed r (state_of l.machine) s (sink.taken l.out) o (over (λ e. sets l.name e (exec_all (block_of l.body))) (plain_of_all (named (state_of l.machine).names) (drop l.entry-index l.entries)))
+          → Executed r (state_of l.fn.machine) s (sink.taken l.fn.out) o (over (λ e. sets l.name e (exec_all (block_of l.body))) (plain_of_all (named (state_of l.fn.machine).names) l.entries));
       later : sink.faults l.fn.out ≤ sink.faults l.out;
       sure : sink.sure l.out ≡ sink.sure l.fn.out;
     }

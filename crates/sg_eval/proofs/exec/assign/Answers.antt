@@ -1,4 +1,5 @@
 use Rattle.std.proofs.Common.{Ok, [], slice_get, sym, ◌∙◌, subst}
+use Rattle.sg_value.specs.Known.{named}
 use Rattle.sg_value.specs.Plain.{AllKnown, plain}
 use Rattle.sg_store.specs.Interned.{Keeps}
 use Rattle.sg_tree.specs.TreeView.{tree_of}
@@ -34,4 +35,4 @@ returns-clause-done c = λ taken.
     let h = c.in_ok-value.ensures in
     let g = c.in_ok-set.ensures in
     executed_value plain AllKnown (eval [] t) (λ d. sets x d (gives tt)) v (Ok tt) s s1 s2 taken taken (at_top plain AllKnown (Ok v) s s1 (λ ps. eval ps t) c.requires h)
-    (executed_sets x (plain (slice_get s1.names) v) (gives tt) (Ok tt) s1 s2 s2 taken taken g.names g.ok (executed_gives tt s2 taken (g.parameters ∙ (h.parameters ∙ c.requires))))
+    (executed_sets x (plain (named s1.names) v) (gives tt) (Ok tt) s1 s2 s2 taken taken g.names g.ok (executed_gives tt s2 taken (g.parameters ∙ (h.parameters ∙ c.requires))))

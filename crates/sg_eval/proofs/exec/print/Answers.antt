@@ -1,4 +1,5 @@
 use Rattle.std.proofs.Common.{Ok, Err, None, Some, [], slice_get, ap, ◌∙◌, subst}
+use Rattle.sg_value.specs.Known.{named}
 use Rattle.sg_rows.specs.declared.fault.Fault.TheVariants.{WrongType}
 use Rattle.sg_value.specs.Plain.{plain_of_all}
 use Rattle.sg_tree.specs.TreeView.{arguments_of}
@@ -46,6 +47,6 @@ returns-in_ok-text-in-Some-clause-done g c =
     let o' = g.W.Sink.taken c.write_text.new.out in
     let r = c.write_text.result in
     let h = subst (λ w. Evaluates plain_where known_where (Ok w) s s1 (λ names. eval_given s.parameters args)) c.in-Some.is c.in_ok-values.ensures.value in
-    let is = c.in_ok-text-in-Some.ensures ∙ ap (λ xs. texts_of (plain_of_all (slice_get s1.names) xs)) c.deref.ensures.value in
+    let is = c.in_ok-text-in-Some.ensures ∙ ap (λ xs. texts_of (plain_of_all (named s1.names) xs)) c.deref.ensures.value in
     executed_value plain_where known_where (eval_given [] args) printed (Some vs) r s s1 s1 o o' (at_top plain_where known_where (Ok (Some vs)) s s1 (λ ps. eval_given ps args) c.requires h)
     (subst (λ bs. Executed r s1 s1 o o' (writes bs (gives tt))) is (executed_writes text r s1 o o' (h.parameters ∙ c.requires) c.write_text.ensures.all c.write_text.ensures.front c.write_text.ensures.kind))

@@ -1,4 +1,5 @@
 use Rattle.std.proofs.Common.{slice_get, ap, sym, ◌∙◌, subst}
+use Rattle.sg_value.specs.Known.{named}
 use Rattle.sg_eval.specs.State.{values_of, AreKnownIn}
 use Rattle.sg_eval.specs.Vars.{with_value}
 use Rattle.sg_value.specs.Plain.{plain}
@@ -19,7 +20,7 @@ returns-clause-ok c = λ names.
     let k = c.in_ok-to_vec.field-0 in
     let v = c.args.value in
     ap (values_of names) c.in_ok-insert.ensures.entries
-    ∙ (rw c.get_mut.follows.holds-at-none (values-insert names k vs v) ∙ ap (λ x. with_value x (plain (slice_get names) v) (values_of names vs)) (c.in_ok-to_vec.ensures.items_if_clones_equal (λ x y e. e)))
+    ∙ (rw c.get_mut.follows.holds-at-none (values-insert names k vs v) ∙ ap (λ x. with_value x (plain (named names) v) (values_of names vs)) (c.in_ok-to_vec.ensures.items_if_clones_equal (λ x y e. e)))
 
 pub returns-clause-known : goal.returns-clause-known
 returns-clause-known c = λ names all h. subst (AreKnownIn names) (sym c.in_ok-insert.ensures.entries) (rw c.get_mut.follows.holds-at-none (known-insert names c.in_ok-to_vec.field-0 c.args.variables.now.entries c.args.value all h))

@@ -1,4 +1,5 @@
 use Rattle.std.proofs.Common.{Ok, refl, ap, sym, ◌∙◌, subst, slice_get, rules}
+use Rattle.sg_value.specs.Known.{named}
 use Rattle.std.specs.Prelude.{FitsSigned}
 use Rattle.std.specs.Int.{w64}
 use Rattle.std.proofs.lemmas.Int.{to_z-of_z}
@@ -21,7 +22,7 @@ returns-clause-reply c =
     let f = c.frobenius.result in
     let fit : FitsSigned w64 f = search rules in
     let v : Value = value.Int (to_z w64 (of_z w64 f)) in
-    let seen = plain_semigroup (slice_get store) c.args.s.now c.in-Some.id gens (sym c.in-Some.ensures) c.in_ok-table.ensures.table in
+    let seen = plain_semigroup (named store) c.args.s.now c.in-Some.id gens (sym c.in-Some.ensures) c.in_ok-table.ensures.table in
     subst (λ o. Replies (Ok v) c.table.new.self (given o (λ G. fits (answers (an_integer (IsFrobenius G)))))) (sym seen)
     (replies_integer c.table.new.self (answers (an_integer (IsFrobenius gens))) f v (contents-Int (to_z w64 (of_z w64 f)) ∙ ap int (to_z-of_z w64 f fit)) fit (answers_pass (an_integer (IsFrobenius gens)))
     (f, refl, subst (λ G. IsFrobenius G f) c.deref.ensures c.frobenius.ensures.frobenius))

@@ -1,4 +1,5 @@
 use Rattle.std.proofs.Common.{◌≡◌, subst, slice_get, Some}
+use Rattle.sg_value.specs.Known.{named}
 use Rattle.sg_value.specs.Plain.{plain}
 use Rattle.sg_apery.specs.Conditions.{IsInBoth}
 use Rattle.sg_apery.specs.Fit.{IsSizeFault}
@@ -11,7 +12,7 @@ use Rattle.sg_makers.proofs.derived.intersection_of.Goals as goal
 
 pub returns-clause-reply : goal.returns-clause-reply
 returns-clause-reply c =
-    let names = slice_get c.args.store.now in
+    let names = named c.args.store.now in
     let after = c.settled.new.store in
     let r = c.settled.result in
     let G = c.deref.result.now in

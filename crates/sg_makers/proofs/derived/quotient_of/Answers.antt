@@ -1,4 +1,5 @@
 use Rattle.std.proofs.Common.{◌<◌, slice_get, pos, ◌*ℤ◌, nat_abs, rules}
+use Rattle.sg_value.specs.Known.{named}
 use Rattle.std.specs.Prelude.{◌<ℤ◌, FitsSigned}
 use Rattle.std.specs.Int.{w64}
 use mir.Val.{to_z, of_z}
@@ -14,7 +15,7 @@ use Rattle.sg_makers.proofs.derived.quotient_of.Goals as goal
 
 pub returns-clause-reply : goal.returns-clause-reply
 returns-clause-reply c =
-    let names = slice_get c.args.store.now in
+    let names = named c.args.store.now in
     let after = c.settled.new.store in
     let r = c.settled.result in
     let G = c.deref.result.now in

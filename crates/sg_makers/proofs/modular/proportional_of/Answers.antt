@@ -1,4 +1,5 @@
 use Rattle.std.proofs.Common.{subst, slice_get, rules}
+use Rattle.sg_value.specs.Known.{named}
 use Rattle.std.specs.Prelude.{FitsSigned}
 use Rattle.std.specs.Int.{w64}
 use Rattle.std.proofs.lemmas.Int.{to_z-of_z}
@@ -12,7 +13,7 @@ use Rattle.sg_makers.proofs.modular.proportional_of.Goals as goal
 
 pub returns-clause-reply : goal.returns-clause-reply
 returns-clause-reply c =
-    let names = slice_get c.args.store.now in
+    let names = named c.args.store.now in
     let after = c.proportional.new.store in
     let r = c.proportional.result in
     let x = c.in-Some.factor in

@@ -1,4 +1,5 @@
 use Rattle.std.proofs.Common.{slice_get}
+use Rattle.sg_value.specs.Known.{named}
 use Rattle.sg_shapes.proofs.Naming.{name-more, name-all, name-plain, name-known, kept-on}
 use Rattle.sg_shapes.proofs.decompositions.semigroup_values.Goals as goal
 
@@ -14,10 +15,10 @@ loop-list-preserved c =
 
 pub returns-clause-plain : goal.returns-clause-plain
 returns-clause-plain c =
-    let names = slice_get c.loop-list.store in
+    let names = named c.loop-list.store in
     name-plain names c.loop-list.values.items c.args.lists.now (name-all names c.loop-list.values.items c.args.lists.now c.loop-list.list-index c.loop-list-test.false c.loop-list.invariant.0)
 
 pub returns-clause-known : goal.returns-clause-known
 returns-clause-known c =
-    let names = slice_get c.loop-list.store in
+    let names = named c.loop-list.store in
     name-known names c.loop-list.values.items c.args.lists.now (name-all names c.loop-list.values.items c.args.lists.now c.loop-list.list-index c.loop-list-test.false c.loop-list.invariant.0)

@@ -26,17 +26,17 @@ add_separated_entry-returns g t c = Adds-after _ _ _ _ _ _ c.in_ok-add_separator
 
 pub add_each_entry-returns-in_err-add_separated_entry : goal.add_each_entry-returns-in_err-add_separated_entry
 add_each_entry-returns-in_err-add_separated_entry g t c =
-    let next = entries-next (g.N.Names.generators c.args.names.now) c.args.items.now c.loop-i.i c.index-items-i.result c.index-items-i.result c.loop-i-test.true c.index-items-i.is in
+    let next = entries-next (g.N.Names.named c.args.names.now) c.args.items.now c.loop-i.i c.index-items-i.result c.index-items-i.result c.loop-i-test.true c.index-items-i.is in
     Adds_err _ _ _ _ c.from_residual.ensures.0 (next_front _ _ _ _ _ _ _ next c.loop-i.invariant c.in_err-add_separated_entry.ensures.err)
 
 pub add_each_entry-loop-i-preserved : goal.add_each_entry-loop-i-preserved
 add_each_entry-loop-i-preserved g t c =
-    let next = entries-next (g.N.Names.generators c.args.names.now) c.args.items.now c.loop-i.i c.index-items-i.result c.index-items-i.result c.loop-i-test.true c.index-items-i.is in
+    let next = entries-next (g.N.Names.named c.args.names.now) c.args.items.now c.loop-i.i c.index-items-i.result c.index-items-i.result c.loop-i-test.true c.index-items-i.is in
     next_added _ _ _ _ _ _ _ next c.loop-i.invariant c.in_ok-add_separated_entry.ensures.ok
 
 pub add_each_entry-returns : goal.add_each_entry-returns
 add_each_entry-returns g t c =
-    let names = g.N.Names.generators c.args.names.now in
+    let names = g.N.Names.named c.args.names.now in
     let done : length (entry_texts (plain_of_all names c.args.items.now)) ≤ c.loop-i.i = rw length-entry_texts c.loop-i-test.false in
     Adds_each _ _ _ _ (joined-all _ _ done) c.loop-i.invariant
 
@@ -45,6 +45,6 @@ add_each_entry-add_separated_entry-requires g t c κs outlives =
     let items = c.args.items.now in
     let v = c.index-items-i.result in
     let within : c.loop-i.i < length items = c.loop-i-test.true in
-    let known = AllKnownIn-at (g.N.Names.generators c.args.names.now) items c.loop-i.i v v c.requires.known within c.index-items-i.is in
+    let known = AllKnownIn-at (g.N.Names.named c.args.names.now) items c.loop-i.i v v c.requires.known within c.index-items-i.is in
     let smaller : the_size v ≤ most (λ x. the_size x) items = subst (λ x. the_size x ≤ most (λ y. the_size y) items) (sym c.index-items-i.is) (at_most (λ x. the_size x) items c.loop-i.i v within) in
     (omega arith, (outlives, known))

@@ -1,4 +1,5 @@
 use Rattle.std.proofs.Common.{slice_get}
+use Rattle.sg_value.specs.Known.{named}
 use Rattle.sg_value.specs.Plain.{plain_of_all}
 use Rattle.sg_calls.specs.Answers.{case_of}
 use Rattle.sg_calls.specs.Commands.{command_named}
@@ -24,6 +25,6 @@ returns c =
     let b = c.answer.new.store in
     let args = c.args.args.now in
     let name = c.args.command.now in
-    evaluates_reply c.answer.result (state_of m) (record { names = b; variables = values_of b m.variables.entries; parameters = vars_of b m.parameters.items }) (case_of (command_named name) (plain_of_all (slice_get a) args)) (λ names. calls name (plain_of_all names args))
+    evaluates_reply c.answer.result (state_of m) (record { names = b; variables = values_of b m.variables.entries; parameters = vars_of b m.parameters.items }) (case_of (command_named name) (plain_of_all (named a) args)) (λ names. calls name (plain_of_all names args))
     kept (values_later a b m.variables.entries kept m.known.0) (vars_later a b m.parameters.items kept m.known.1)
     (λ final later t h. call_answered a final args name t (keeps_then a b final kept later) c.requires.known c.requires.checked h) c.answer.ensures.reply

@@ -1,4 +1,5 @@
 use Rattle.std.proofs.Common.{slice_get, sym, subst}
+use Rattle.sg_value.specs.Known.{named}
 use Rattle.sg_value.specs.Plain.{plain}
 use Rattle.sg_calls.specs.Operations.{operation}
 use Rattle.sg_rows.specs.Order.{IsReply}
@@ -25,7 +26,7 @@ returns c =
     let x = c.args.a.now in
     let y = c.args.b.now in
     let op = c.args.op in
-    evaluates_reply c.combine.result (state_of m) (record { names = b; variables = values_of b m.variables.entries; parameters = vars_of b m.parameters.items }) (operation op (plain (slice_get a) x) (plain (slice_get a) y)) (λ names. combines op (plain names x) (plain names y))
+    evaluates_reply c.combine.result (state_of m) (record { names = b; variables = values_of b m.variables.entries; parameters = vars_of b m.parameters.items }) (operation op (plain (named a) x) (plain (named a) y)) (λ names. combines op (plain names x) (plain names y))
     kept (values_later a b m.variables.entries kept m.known.0) (vars_later a b m.parameters.items kept m.known.1)
-    (λ final later t h. subst (λ d. IsReply (operation op d (plain (slice_get final) y)) t) (sym (plain_later a final x (keeps_then a b final kept later) c.requires.left))
-    (subst (λ d. IsReply (operation op (plain (slice_get a) x) d) t) (sym (plain_later a final y (keeps_then a b final kept later) c.requires.right)) h)) c.combine.ensures.reply
+    (λ final later t h. subst (λ d. IsReply (operation op d (plain (named final) y)) t) (sym (plain_later a final x (keeps_then a b final kept later) c.requires.left))
+    (subst (λ d. IsReply (operation op (plain (named a) x) d) t) (sym (plain_later a final y (keeps_then a b final kept later) c.requires.right)) h)) c.combine.ensures.reply

@@ -1,4 +1,5 @@
 use Rattle.std.proofs.Common.{Err, Ok, slice_get, refl, sym, subst}
+use Rattle.sg_value.specs.Known.{named}
 use Rattle.std.specs.Map.{lookup}
 use Rattle.std.specs.Str.{bytes_eq}
 use Rattle.sg_value.specs.Plain.{AllKnown, plain}
@@ -49,7 +50,7 @@ returns c =
     let s1 : State = record { names = b; variables = values_of b m.variables.entries; parameters = vars_of b m.parameters.items } in
     let h = found_over (Ok v) s x m.parameters.items c.deref.result.now m.variables.entries c.in_ok-b.ensures c.deref.ensures.value refl refl m.known.1 m.known.0 in
     evaluates_then plain_of known_of plain AllKnown v c.combine.result s s s1 (λ names. named (lookup (bytes_eq x) s.parameters) x) (λ names d. ask (combines op (plain names u) d)) h
-    (evaluates_reply c.combine.result s s1 (operation op (plain (slice_get a) u) (plain (slice_get a) v.now)) (λ names. combines op (plain names u) (plain names v.now))
+    (evaluates_reply c.combine.result s s1 (operation op (plain (named a) u) (plain (named a) v.now)) (λ names. combines op (plain names u) (plain names v.now))
     kept (values_later a b m.variables.entries kept m.known.0) (vars_later a b m.parameters.items kept m.known.1)
-    (λ final later t g. subst (λ d. IsReply (operation op d (plain (slice_get final) v.now)) t) (sym (plain_later a final u (keeps_then a b final kept later) c.requires))
-    (subst (λ d. IsReply (operation op (plain (slice_get a) u) d) t) (sym (plain_later a final v.now (keeps_then a b final kept later) h.is_known)) g)) c.combine.ensures.reply)
+    (λ final later t g. subst (λ d. IsReply (operation op d (plain (named final) v.now)) t) (sym (plain_later a final u (keeps_then a b final kept later) c.requires))
+    (subst (λ d. IsReply (operation op (plain (named a) u) d) t) (sym (plain_later a final v.now (keeps_then a b final kept later) h.is_known)) g)) c.combine.ensures.reply)

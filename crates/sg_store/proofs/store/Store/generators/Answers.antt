@@ -2,8 +2,9 @@ use Rattle.std.proofs.Common.{◌≡◌, slice_get, Some, ap, sym, ◌∙◌, su
 use Rattle.std.specs.Option.{option_map}
 use Rattle.std.proofs.lemmas.Option.{slice_get-map}
 use Rattle.sg_value.specs.Plain.{AreDistinct}
+use Rattle.sg_value.specs.Known.{named}
 use Rattle.sg_store.specs.declared.key.Key.{Key}
-use Rattle.sg_store.proofs.Interning.{unique_injective}
+use Rattle.sg_store.proofs.Interning.{known_distinct}
 use Rattle.sg_store.proofs.store.Store.generators.Goals as goal
 
 pub returns-clause-fit : goal.returns-clause-fit
@@ -13,4 +14,6 @@ returns-clause-fit c =
     c.self.invariant.fit c.args.id c.in-Some.key.now.list (slice_get-map (λ (k : Key). k.list) keys c.args.id ∙ ap (option_map (λ (k : Key). k.list)) at)
 
 pub returns-clause-distinct : goal.returns-clause-distinct
-returns-clause-distinct c = subst (λ l. AreDistinct (slice_get l)) c.self.view_is (unique_injective c.self.inside.keys.keys c.self.invariant.unique)
+returns-clause-distinct c =
+    let inv = c.self.invariant in
+    subst (λ l. AreDistinct (named l)) c.self.view_is (known_distinct c.self.inside.keys.keys inv.unique c.self.inside.ideals.keys inv.ideals_fit inv.ideals_unique)

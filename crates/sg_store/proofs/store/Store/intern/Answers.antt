@@ -1,10 +1,10 @@
 use Rattle.sg_store.proofs.store.Store.intern.Goals as goal
 use Rattle.std.proofs.Common.{slice_get, ap, sym, ◌∙◌, subst}
 use Rattle.std.specs.List.{IsDistinct}
-use Rattle.sg_store.specs.Held.{lists_of, same_key, AreTables, AreNumbers}
+use Rattle.sg_store.specs.Held.{lists_of, known_by, same_key, AreTables, AreNumbers, AllFit, AllIdealsFit}
 use Rattle.sg_store.specs.Interned.{IsInterned}
 use Rattle.sg_store.specs.declared.key.Key.{Key}
-use Rattle.sg_store.proofs.Interning.{AllFit, fit_inserted, kept_inserted, tables_kept, numbers_kept, interned}
+use Rattle.sg_store.proofs.Interning.{fit_inserted, lists_grow, ideals_fit-grows, tables_kept, numbers_kept, interned}
 
 pub invariant_of-self : goal.invariant_of-self
 invariant_of-self c =
@@ -12,6 +12,8 @@ invariant_of-self c =
     record {
       fit = subst AllFit same c.self.invariant.fit;
       unique = c.insert_full.ensures.unique;
+      ideals_fit = subst (λ l. AllIdealsFit (lists_of l) c.self.inside.ideals.keys) same c.self.invariant.ideals_fit;
+      ideals_unique = c.self.invariant.ideals_unique;
       tables = subst (λ l. AreTables (lists_of l) c.self.inside.tables) same c.self.invariant.tables;
       numbers = subst (λ l. AreNumbers (lists_of l) c.self.inside.numbers) same c.self.invariant.numbers;
     }
@@ -21,22 +23,25 @@ invariant_of-self-2 c =
     let old = c.self.inside.keys.keys in
     let k : Key = record { list = c.args.gens } in
     let same = sym c.in_ok-index.ensures.keys in
-    let keeps = kept_inserted old k in
+    let grows = lists_grow old k c.self.inside.ideals.keys in
     record {
-      fit = subst AllFit same (fit_inserted old k c.self.invariant.fit c.requires);
+      fit = subst AllFit same (fit_inserted old k c.self.inside.ideals.keys c.self.invariant.fit c.requires);
       unique = c.insert_full.ensures.unique;
-      tables = subst (λ l. AreTables (lists_of l) c.self.inside.tables) same (tables_kept (lists_of old) _ c.self.inside.tables keeps c.self.invariant.tables);
-      numbers = subst (λ l. AreNumbers (lists_of l) c.self.inside.numbers) same (numbers_kept (lists_of old) _ c.self.inside.numbers keeps c.self.invariant.numbers);
+      ideals_fit = subst (λ l. AllIdealsFit (lists_of l) c.self.inside.ideals.keys) same (ideals_fit-grows (lists_of old) _ grows c.self.inside.ideals.keys c.self.invariant.ideals_fit);
+      ideals_unique = c.self.invariant.ideals_unique;
+      tables = subst (λ l. AreTables (lists_of l) c.self.inside.tables) same (tables_kept (lists_of old) _ c.self.inside.tables grows c.self.invariant.tables);
+      numbers = subst (λ l. AreNumbers (lists_of l) c.self.inside.numbers) same (numbers_kept (lists_of old) _ c.self.inside.numbers grows c.self.invariant.numbers);
     }
 
 pub returns-clause-interned : goal.returns-clause-interned
 returns-clause-interned c =
     let old = c.self.inside.keys.keys in
+    let ideals = c.self.inside.ideals.keys in
     let k : Key = record { list = c.args.gens } in
     let stored = c.in_ok-index.ensures.stored in
     let keys = c.in_ok-index.ensures.keys in
     let id = c.in_ok-index.index in
-    let here = interned old k stored.0 id (ap (λ l. slice_get l id) (sym keys) ∙ stored.1) stored.2 (subst (λ l. IsDistinct same_key l) keys c.insert_full.ensures.unique) in
-    let seen = subst (λ l. IsInterned (lists_of old) (lists_of l) c.args.gens id) (sym keys) here in
-    let named = subst (λ l. IsInterned l (lists_of c.insert_full.new.self.keys) c.args.gens id) c.self.view_is seen in
-    subst (λ i. IsInterned c.args.self.now (lists_of c.insert_full.new.self.keys) c.args.gens i) (sym c.new.ensures) named
+    let here = interned old k ideals c.self.invariant.ideals_fit stored.0 id (ap (λ l. slice_get l id) (sym keys) ∙ stored.1) stored.2 (subst (λ l. IsDistinct same_key l) keys c.insert_full.ensures.unique) in
+    let seen = subst (λ l. IsInterned (known_by old ideals) (known_by l ideals) c.args.gens id) (sym keys) here in
+    let named = subst (λ l. IsInterned l (known_by c.insert_full.new.self.keys ideals) c.args.gens id) c.self.view_is seen in
+    subst (λ i. IsInterned c.args.self.now (known_by c.insert_full.new.self.keys ideals) c.args.gens i) (sym c.new.ensures) named
