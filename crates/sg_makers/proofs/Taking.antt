@@ -1,5 +1,5 @@
 -- Replies by the kinds of arguments.
-use Rattle.std.proofs.Common.{◌≡◌, ℕ, ℤ, List, Some, Result, slice_get, sym, subst, ◌∙◌}
+use Rattle.std.proofs.Common.{◌≡◌, ℕ, ℤ, List, Some, Result, sym, subst, ◌∙◌}
 use Rattle.sg_value.specs.Data.{semigroups}
 use Rattle.sg_value.specs.Known.{Known, named}
 use Rattle.sg_value.specs.Plain.{Named, AllKnown, IsKept, contents, plain, thing_at}

@@ -1,5 +1,5 @@
 -- Values that name semigroups of a store.
-use Rattle.std.proofs.Common.{◌≡◌, ◌+◌, ◌<◌, ◌≤◌, ℕ, List, [], ◌∷◌, ◌++◌, length, get_or, take, Some, Ok, Err, Vec, Global, slice_get, map, unwrap_or, is_some, refl, ap, ap₂, sym, ◌∙◌, subst}
+use Rattle.std.proofs.Common.{◌≡◌, ◌+◌, ◌<◌, ◌≤◌, ℕ, List, [], ◌∷◌, ◌++◌, length, get_or, take, Some, Ok, Err, Vec, Global, map, unwrap_or, is_some, refl, ap, ap₂, sym, ◌∙◌, subst}
 use Rattle.sg_value.specs.Known.{Known, named}
 use Rattle.std.proofs.lemmas.List.{take_more, take_all}
 use Rattle.sg_value.specs.Data.{semigroup, list, items_of, item, data_map, EachThing, semigroups}
@@ -33,7 +33,7 @@ pub name-kept : (old new : Named) (vs : List Value) (L : List (List ℕ)) → Is
 name-kept old new [] [] kept h = tt
 name-kept old new [] (K ∷ L) kept h = absurd h
 name-kept old new (w ∷ vs) [] kept h = absurd h
-name-kept old new (w ∷ vs) (K ∷ L) kept h = ((h.0.0, h.0.1, kept h.0.0 K h.0.2), name-kept old new vs L kept h.1)
+name-kept old new (w ∷ vs) (K ∷ L) kept h = ((h.0.0, h.0.1, kept semigroups h.0.0 K h.0.2), name-kept old new vs L kept h.1)
 
 pub name-plain : (names : Named) (vs : List Value) (L : List (List ℕ)) → Name names vs L → plain_of_all names vs ≡ items_of (map semigroup L)
 name-plain names [] [] h = refl
@@ -49,7 +49,7 @@ name-known names (w ∷ vs) [] h = absurd h
 name-known names (w ∷ vs) (K ∷ L) h = (subst (EachThing (IsKnown names)) (sym h.0.1) (ap is_some h.0.2), name-known names vs L h.1)
 
 pub kept-on : (one two three : Named) → IsKept one two → IsKept two three → IsKept one three
-kept-on one two three h k = λ i gens at. k i gens (h i gens at)
+kept-on one two three h k = λ j i thing at. k j i thing (h j i thing at)
 
 -- what names the semigroups of a list is that list
 pub replies_names : (store : Known) (vs : Vec Value Global) (L : List (List ℕ)) → plain_of_all (named store) vs.items ≡ items_of (map semigroup L) → AllKnownIn (named store) vs.items → length L < 4194304
@@ -66,7 +66,7 @@ replies_heavy_names store L many =
     delivered (answers (λ d. d ≡ semigroup_list L)) (semigroup_list L) (Err TooLarge) (answers_pass (λ d. d ≡ semigroup_list L)) refl (delivers_heavy_semigroups L many)
 
 -- one more name
-pub name-more : (old new : Named) (vs ws : List Value) (L : List (List ℕ)) (i id : ℕ) (M N : List ℕ) → Name old vs (take i L) → IsKept old new → i < length L → M ≡ get_or L i M → N ≡ M → new id ≡ Some N → ws ≡ vs ++ value.Sem id ∷ []
+pub name-more : (old new : Named) (vs ws : List Value) (L : List (List ℕ)) (i id : ℕ) (M N : List ℕ) → Name old vs (take i L) → IsKept old new → i < length L → M ≡ get_or L i M → N ≡ M → new semigroups id ≡ Some N → ws ≡ vs ++ value.Sem id ∷ []
     → Name new ws (take (i + 1) L)
 name-more old new vs ws L i id M N h kept within is same at pushed =
     let longer = name-push new vs (take i L) (value.Sem id) M id (name-kept old new vs (take i L) kept h) (contents-Sem id) (at ∙ ap Some same) in

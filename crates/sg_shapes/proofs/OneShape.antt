@@ -1,13 +1,11 @@
 -- The rows on shapes have one value.
 use Rattle.std.proofs.Common.{◌≡◌, ◌<◌, ℕ, ℤ, List, [], ◌∷◌, length, reverse, inl, inr, refl, ap, sym, ◌∙◌, subst, arith}
-use Rattle.std.specs.Prelude.{pos}
 use Rattle.std.specs.List.{AllZip}
-use Rattle.sg_defs.specs.Membership.{IsMember, IsNumericalSemigroup, IsMinimal, Generates, Holds}
-use Rattle.sg_defs.specs.Listings.{ListsIntegers}
+use Rattle.sg_defs.specs.Membership.{IsMember, IsMinimal, Generates}
 use Rattle.sg_defs.specs.Invariants.{IsSpecialGap}
 use Rattle.sg_defs.specs.Symmetry.{IsSymmetric, IsPseudoSymmetric, IsIrreducible}
 use Rattle.sg_defs.specs.Closures.{IsArf, IsMed, IsSaturated, IsLeast, IsArfClosure, IsMedClosure, IsSaturatedClosure}
-use Rattle.sg_defs.specs.Decomposition.{IsInCover, IsInEachCover, IsChosen, IsDecomposition}
+use Rattle.sg_defs.specs.Decomposition.{IsInCover, IsChosen, IsDecomposition}
 use Rattle.sg_apery.proofs.OneListLemmas.{one-minimal_list}
 use Rattle.sg_value.specs.Data.{semigroup}
 use Rattle.sg_rows.specs.Order.{Plain, fits}

@@ -1,10 +1,10 @@
 -- The rows on shapes have a value: each shape is decided, and each closure and the decomposition exist.
-use Rattle.std.proofs.Common.{◌≡◌, ℕ, ◌<◌, ◌≤◌, List, refl, subst, inl, inr, arith}
+use Rattle.std.proofs.Common.{◌≡◌, ℕ, List, refl, subst, inl, inr}
 use Rattle.std.specs.Prelude.{◌⊎◌, All}
 use Rattle.std.proofs.lemmas.Bool.{cases_lt}
-use Rattle.sg_defs.specs.Membership.{IsMember, IsNumericalSemigroup, IsMinimal, IsMultiplicity, Generates}
+use Rattle.sg_defs.specs.Membership.{IsMember, IsNumericalSemigroup, IsMinimal, IsMultiplicity}
 use Rattle.sg_defs.specs.Symmetry.{IsSymmetric, IsPseudoSymmetric, IsIrreducible}
-use Rattle.sg_defs.specs.Closures.{IsArf, IsMed, IsSaturated, IsLeast, IsArfClosure, IsMedClosure, IsSaturatedClosure}
+use Rattle.sg_defs.specs.Closures.{IsArf, IsMed, IsSaturated, IsLeast}
 use Rattle.sg_defs.specs.Decomposition.{IsDecomposition}
 use Rattle.sg_apery.specs.Fit.{IsFit}
 use Rattle.sg_apery.specs.declared.limits.TheConstants.{SPAN_LIMIT}
@@ -25,7 +25,7 @@ use Rattle.sg_rows.specs.Kinds.{given, as_semigroup, answers, whether}
 use Rattle.sg_rows.specs.Limits.{IsWide, IsShort, spanned}
 use Rattle.sg_rows.specs.Listed.{semigroups_with}
 use Rattle.sg_rows.specs.Lawful.{IsLawfulList, IsLawful}
-use Rattle.sg_rows.proofs.SomeValue.{SomeValue, HasLawful, given_some, answers_some, whether_some, as_semigroup_lawful}
+use Rattle.sg_rows.proofs.SomeValue.{SomeValue, given_some, answers_some, whether_some, as_semigroup_lawful}
 use Rattle.sg_rows.proofs.SomeListed.{spanned_some, semigroups_some}
 use Rattle.sg_shapes.specs.Symmetry.{is_symmetric_of, is_pseudo_symmetric_of, is_irreducible_of, is_med_of}
 use Rattle.sg_shapes.specs.Closures.{is_arf_of, is_saturated_of, closure, arf_closure_of, med_closure_of, saturated_closure_of}

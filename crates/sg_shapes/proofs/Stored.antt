@@ -1,11 +1,10 @@
 -- The parts of a decomposition are fit for a store.
-use Rattle.std.proofs.Common.{◌≡◌, ◌+◌, ◌-◌, ◌<◌, ◌≤◌, ℕ, zero, suc, ℤ, List, [], ◌∷◌, length, get_or, inl, inr, refl, ap, sym, ◌∙◌, subst, arith}
+use Rattle.std.proofs.Common.{◌≡◌, ◌-◌, ◌<◌, ◌≤◌, ℕ, zero, suc, ℤ, List, [], ◌∷◌, length, get_or, inl, inr, refl, sym, subst, arith}
 use Rattle.std.specs.Prelude.{All}
 use Rattle.std.specs.List.{AllZip}
 use Rattle.std.proofs.lemmas.Bool.{cases_lt}
 use Rattle.sg_defs.specs.Membership.{IsMember, IsNumericalSemigroup, IsMinimal, IsMultiplicity, Holds, Generates}
 use Rattle.sg_defs.specs.Decomposition.{IsInCover, IsDecomposition}
-use Rattle.sg_apery.specs.Fit.{IsFit}
 use Rattle.sg_apery.specs.declared.limits.TheConstants.{ENTRY_LIMIT, MULTIPLICITY_LIMIT, SPAN_LIMIT}
 use Rattle.sg_closure.proofs.MultiplicityLemmas.{first-multiplicity, no_sum}
 use Rattle.sg_closure.proofs.FitLemmas.{span-above}

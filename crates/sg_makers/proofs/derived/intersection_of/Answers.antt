@@ -17,7 +17,7 @@ returns-clause-reply c =
     let r = c.settled.result in
     let G = c.deref.result.now in
     let H = c.deref-2.result.now in
-    let second = subst (λ s. slice_get s c.in-Some-semigroup_of.second ≡ Some c.in_ok-other.other.value) c.in_ok-one.ensures.unchanged c.in_ok-other.ensures.table in
+    let second = subst (λ s. slice_get s.semigroups c.in-Some-semigroup_of.second ≡ Some c.in_ok-other.other.value) c.in_ok-one.ensures.unchanged c.in_ok-other.ensures.table in
     of_semigroup names after c.args.s.now (λ A. given (as_semigroup (plain names c.args.t.now)) (λ B. fits (generates (IsInBoth A B)))) r c.in-Some.first c.in_ok-one.one.value G c.in-Some.ensures c.in_ok-one.ensures.table c.deref.ensures
     (of_semigroup names after c.args.t.now (λ B. fits (generates (IsInBoth G B))) r c.in-Some-semigroup_of.second c.in_ok-other.other.value H c.in-Some-semigroup_of.ensures second c.deref-2.ensures
     (settles (IsInBoth G H) (IsInBoth G H) (Unit {0}) (IsSizeFault (IsInBoth G H)) ⊥ ⊥ (intersection_serves G H) after c.intersect.result r c.settled.ensures.settled c.intersect.ensures.generated (always c.intersect.result) c.intersect.ensures.refused))

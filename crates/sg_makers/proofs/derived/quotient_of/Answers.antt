@@ -1,4 +1,4 @@
-use Rattle.std.proofs.Common.{◌<◌, slice_get, pos, ◌*ℤ◌, nat_abs, rules}
+use Rattle.std.proofs.Common.{◌<◌, pos, ◌*ℤ◌, nat_abs, rules}
 use Rattle.sg_value.specs.Known.{named}
 use Rattle.std.specs.Prelude.{◌<ℤ◌, FitsSigned}
 use Rattle.std.specs.Int.{w64}

@@ -1,4 +1,4 @@
-use Rattle.std.proofs.Common.{Err, refl, sym, ◌∙◌, subst, slice_get}
+use Rattle.std.proofs.Common.{Err, refl, sym, ◌∙◌, subst}
 use Rattle.sg_value.specs.Known.{named}
 use Rattle.sg_value.specs.Plain.{contents_of_all, thing_at}
 use Rattle.sg_rows.specs.Order.{IsReply}

@@ -1,4 +1,3 @@
-use Rattle.std.proofs.Common.{slice_get}
 use Rattle.sg_value.specs.Known.{named}
 use Rattle.sg_rows.proofs.Integers.{no_integers}
 use Rattle.sg_makers.specs.Listed.{by_small_elements}

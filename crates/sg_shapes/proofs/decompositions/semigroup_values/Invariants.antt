@@ -1,5 +1,4 @@
-use Rattle.std.proofs.Common.{slice_get, take}
-use Rattle.sg_value.specs.Data.{semigroups}
+use Rattle.std.proofs.Common.{take}
 use Rattle.sg_value.specs.Known.{named}
 use Rattle.sg_store.specs.Interned.{Keeps}
 use Rattle.sg_shapes.proofs.Naming.{Name}
