@@ -33,7 +33,7 @@ returns-clause-reply c =
     let whole = c.args.whole.now in
     let id = c.in-Some-semigroup_of.id in
     let is : as_semigroup (contents whole) ≡ Some id = sym c.semigroup_of.ensures ∙ c.in-Some-semigroup_of.is in
-    let held : (gens : List ℕ) × (names semigroups id ≡ Some gens) = some_of (names id) (known_semigroup names whole id c.requires.whole is) in
+    let held : (gens : List ℕ) × (names semigroups id ≡ Some gens) = some_of (names semigroups id) (known_semigroup names whole id c.requires.whole is) in
     let no_list = as_list-plain f (contents whole) ∙ ap (option_map (items_map f)) c.in_default.ensures in
     subst (λ o. Replies c.is_member.result c.is_member.new.store (membership d o (as_semigroup (plain names whole)))) (sym no_list)
     (subst (λ o. Replies c.is_member.result c.is_member.new.store (membership d None o)) (sym (plain_semigroup names whole id held.0 is held.1)) (c.is_member.ensures.reply held.0 held.1))
