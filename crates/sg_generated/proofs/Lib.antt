@@ -1,0 +1,2 @@
+pub mod OneIdeal
+pub mod IdealDecisions
