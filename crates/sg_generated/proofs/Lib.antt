@@ -1,2 +1,3 @@
 pub mod OneIdeal
 pub mod IdealDecisions
+pub mod IdealsExist
