@@ -1,9 +1,9 @@
 //! Laws over the definitions, each the contract of a function that does nothing.
 
-ghost use Rattle.std.specs.Prelude.{◌≡◌, ℕ, ℤ, Bool, IsTrue, List};
-ghost use Rattle.sg_defs.specs.Ideals.{IsIdealMember};
+ghost use Rattle.std.specs.Prelude.{◌≡◌, ◌<◌, ℕ, ℤ, Bool, IsTrue, List, length};
+ghost use Rattle.sg_defs.specs.Ideals.{IsIdealMember, IsInSum, IsInDifference, IsInMultiple, IsInTranslate, IsInCanonical, IsInMaximal};
 ghost use Rattle.sg_defs.specs.Membership.{IsNumericalSemigroup};
-ghost use Rattle.sg_ideal.specs.Value.{GeneratesIdeal};
+ghost use Rattle.sg_ideal.specs.Value.{AreSmall, GeneratesIdeal, HasLargeGenerator, IsInBoth};
 ghost use Rattle.sg_exist.specs.Decided.{Decided};
 ghost use Rattle.sg_generated.specs.Sets.{IsIdealSet, HasIdeal};
 
@@ -21,4 +21,28 @@ pub fn an_ideal_has_one_minimal_list()
 /// each member added.
 pub fn an_ideal_set_has_a_minimal_list()
     ensures { (G : List ℕ) (p : ℤ → Bool) → IsNumericalSemigroup G → IsIdealSet G (λ x. IsTrue (p x)) → HasIdeal G (λ x. IsTrue (p x)) }
+{}
+
+/// What integers generate has a minimal list where there are some, and so have sums, differences and intersections of two
+/// ideals, sums of k members for k above 0, and translates (Rosales and Garcia-Sanchez, chapter 2).
+pub fn operations_on_ideals_have_minimal_lists()
+    ensures generated { (G : List ℕ) → IsNumericalSemigroup G → (zs : List ℤ) → 0 < length zs → HasIdeal G (IsIdealMember G zs) }
+    ensures sum { (G : List ℕ) → IsNumericalSemigroup G → (I J : List ℤ) → 0 < length I → 0 < length J → HasIdeal G (IsInSum (IsIdealMember G I) (IsIdealMember G J)) }
+    ensures difference { (G : List ℕ) → IsNumericalSemigroup G → (I J : List ℤ) → 0 < length I → 0 < length J → HasIdeal G (IsInDifference (IsIdealMember G I) (IsIdealMember G J)) }
+    ensures intersection { (G : List ℕ) → IsNumericalSemigroup G → (I J : List ℤ) → 0 < length I → 0 < length J → HasIdeal G (IsInBoth (IsIdealMember G I) (IsIdealMember G J)) }
+    ensures multiple { (G : List ℕ) → IsNumericalSemigroup G → (I : List ℤ) (k : ℕ) → 0 < length I → 0 < k → HasIdeal G (IsInMultiple k (IsIdealMember G I)) }
+    ensures translate { (G : List ℕ) → IsNumericalSemigroup G → (I : List ℤ) (x : ℤ) → 0 < length I → HasIdeal G (IsInTranslate x (IsIdealMember G I)) }
+{}
+
+/// Each numerical semigroup has a canonical and a maximal ideal.
+pub fn the_canonical_and_the_maximal_ideal_have_minimal_lists()
+    ensures canonical { (G : List ℕ) → IsNumericalSemigroup G → HasIdeal G (IsInCanonical G) }
+    ensures maximal { (G : List ℕ) → IsNumericalSemigroup G → HasIdeal G (IsInMaximal G) }
+{}
+
+/// Of each list it is decided whether all its entries are within the limit; and where a minimal generator of an ideal is
+/// past it, no minimal list of the ideal is within it.
+pub fn keeping_the_limit_is_decided()
+    ensures small { (zs : List ℤ) → Decided (AreSmall zs) }
+    ensures large { (G : List ℕ) (zs I : List ℤ) → HasLargeGenerator G (IsIdealMember G zs) → GeneratesIdeal G (IsIdealMember G zs) I → ¬ AreSmall I }
 {}
