@@ -6,7 +6,8 @@ use Rattle.sg_defs.specs.Membership.{IsNumericalSemigroup}
 use Rattle.sg_defs.specs.Ideals.{IsIdealMember, IsInSum, IsInDifference, IsInMultiple, IsInTranslate, IsInCanonical, IsInMaximal}
 use Rattle.sg_ideal.specs.Value.{GeneratesIdeal, IsInBoth}
 use Rattle.sg_generated.proofs.IdealsExist.{ideal-exists}
-use Rattle.sg_generated.proofs.IdealSets.{generated-set, sum-set, both-set, difference-set, multiple-set, translate-set, canonical-set, maximal-set}
+use Rattle.sg_generated.proofs.IdealSets.{generated-set, sum-set, both-set, difference-set, multiple-set, translate-set}
+use Rattle.sg_generated.proofs.OwnSets.{canonical-set, maximal-set}
 
 pub generated-exists : (G : List ℕ) → IsNumericalSemigroup G → (zs : List ℤ) → 0 < length zs → (I : List ℤ) × GeneratesIdeal G (IsIdealMember G zs) I
 generated-exists G num zs l = ideal-exists G num (IsIdealMember G zs) (generated-set G zs l)

@@ -4,7 +4,7 @@ use Rattle.sg_defs.specs.Membership.{IsMember}
 use Rattle.sg_ideal.specs.Value.{GeneratesIdeal}
 use Rattle.sg_exist.specs.Decided.{Decided}
 
--- P has some integer, none below a bound, and with each integer its sum with each member, and says of each whether it has it
+-- P has some integer, none below a bound, and with each its sum with each member, and says of each integer whether it has it
 pub record IsIdealSet (G : List ℕ) (P : ℤ → Type 0) : Type 0 where
   pub decided : (x : ℤ) → Decided (P x)
   pub some : (x : ℤ) × P x

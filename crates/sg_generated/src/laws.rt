@@ -24,7 +24,7 @@ pub fn an_ideal_set_has_a_minimal_list()
 {}
 
 /// What integers generate has a minimal list where there are some, and so have sums, differences and intersections of two
-/// ideals, sums of k members for k above 0, and translates (Rosales and Garcia-Sanchez, chapter 2).
+/// ideals, sums of k members for k above 0, and translates.
 pub fn operations_on_ideals_have_minimal_lists()
     ensures generated { (G : List ℕ) → IsNumericalSemigroup G → (zs : List ℤ) → 0 < length zs → HasIdeal G (IsIdealMember G zs) }
     ensures sum { (G : List ℕ) → IsNumericalSemigroup G → (I J : List ℤ) → 0 < length I → 0 < length J → HasIdeal G (IsInSum (IsIdealMember G I) (IsIdealMember G J)) }
@@ -34,7 +34,8 @@ pub fn operations_on_ideals_have_minimal_lists()
     ensures translate { (G : List ℕ) → IsNumericalSemigroup G → (I : List ℤ) (x : ℤ) → 0 < length I → HasIdeal G (IsInTranslate x (IsIdealMember G I)) }
 {}
 
-/// Each numerical semigroup has a canonical and a maximal ideal.
+/// Each numerical semigroup has a canonical and a maximal ideal (Rosales and Garcia-Sanchez, Numerical Semigroups, 2009,
+/// section 2.4).
 pub fn the_canonical_and_the_maximal_ideal_have_minimal_lists()
     ensures canonical { (G : List ℕ) → IsNumericalSemigroup G → HasIdeal G (IsInCanonical G) }
     ensures maximal { (G : List ℕ) → IsNumericalSemigroup G → HasIdeal G (IsInMaximal G) }
