@@ -14,7 +14,7 @@ use Rattle.std.proofs.lemmas.Result.{err_from_is_err_and}
 use Rattle.std.proofs.Math.Path.{fun_ext}
 use Rattle.sg_store.specs.Interned.{Keeps}
 use Rattle.sg_tree.specs.Tree.{Tree, Trees, tree}
-use Rattle.sg_eval.specs.Expressions.{named, known, eval, eval_places, ask}
+use Rattle.sg_eval.specs.Expressions.{looked_up, known, eval, eval_places, ask}
 use Rattle.sg_eval.specs.Given.{plain_if}
 use Rattle.sg_eval.specs.Linked.{placed, start_of, items_from, next_from}
 use Rattle.sg_eval.specs.Queries.{indexes}
@@ -37,19 +37,19 @@ pub value_at_place : (v : Bor Value) (s : State) (p : Named → Process Plain) �
 value_at_place v s p h = record { keeps = h.keeps; variables = h.variables; parameters = h.parameters; is_known = h.is_known; gives = h.gives }
 
 pub parameter_there : (s : State) (x : List ℕ) (ps : List Variable) (v : Bor Value) → s.parameters ≡ vars_of s.names ps → lookup (bytes_eq x) (vars_of s.names ps) ≡ Some (plain (named s.names) v.now)
-    → AllKnown (named s.names) v.now → Evaluates plain_of known_of (Ok v) s s (λ names. named (lookup (bytes_eq x) s.parameters) x)
+    → AllKnown (named s.names) v.now → Evaluates plain_of known_of (Ok v) s s (λ names. looked_up (lookup (bytes_eq x) s.parameters) x)
 parameter_there s x ps v params found is_known =
-    seen_at v s (λ names. named (lookup (bytes_eq x) s.parameters) x) (parameter_found s x v.now v.now (ap (lookup (bytes_eq x)) params ∙ found) is_known refl)
+    seen_at v s (λ names. looked_up (lookup (bytes_eq x) s.parameters) x) (parameter_found s x v.now v.now (ap (lookup (bytes_eq x)) params ∙ found) is_known refl)
 
 pub variable_there : (s : State) (x : List ℕ) (ps : List Variable) (es : Entries) (v : Bor Value) → s.parameters ≡ vars_of s.names ps → s.variables ≡ values_of s.names es → lookup (bytes_eq x) (vars_of s.names ps) ≡ None
-    → lookup (bytes_eq x) (values_of s.names es) ≡ Some (plain (named s.names) v.now) → AllKnown (named s.names) v.now → Evaluates plain_of known_of (Ok v) s s (λ names. named (lookup (bytes_eq x) s.parameters) x)
+    → lookup (bytes_eq x) (values_of s.names es) ≡ Some (plain (named s.names) v.now) → AllKnown (named s.names) v.now → Evaluates plain_of known_of (Ok v) s s (λ names. looked_up (lookup (bytes_eq x) s.parameters) x)
 variable_there s x ps es v params vars absent found is_known =
-    seen_at v s (λ names. named (lookup (bytes_eq x) s.parameters) x) (variable_found s x v.now v.now (ap (lookup (bytes_eq x)) params ∙ absent) (ap (lookup (bytes_eq x)) vars ∙ found) is_known refl)
+    seen_at v s (λ names. looked_up (lookup (bytes_eq x) s.parameters) x) (variable_found s x v.now v.now (ap (lookup (bytes_eq x)) params ∙ absent) (ap (lookup (bytes_eq x)) vars ∙ found) is_known refl)
 
 pub name_unknown : (s : State) (x : List ℕ) (ps : List Variable) (es : Entries) → s.parameters ≡ vars_of s.names ps → s.variables ≡ values_of s.names es → lookup (bytes_eq x) (vars_of s.names ps) ≡ None
-    → lookup (bytes_eq x) (values_of s.names es) ≡ None → Evaluates plain_of known_of (Err (Script UnknownName)) s s (λ names. named (lookup (bytes_eq x) s.parameters) x)
+    → lookup (bytes_eq x) (values_of s.names es) ≡ None → Evaluates plain_of known_of (Err (Script UnknownName)) s s (λ names. looked_up (lookup (bytes_eq x) s.parameters) x)
 name_unknown s x ps es params vars absent missing =
-    subst (λ o. Evaluates plain_of known_of (Err (Script UnknownName)) s s (λ names. named o x)) (sym (ap (lookup (bytes_eq x)) params ∙ absent))
+    subst (λ o. Evaluates plain_of known_of (Err (Script UnknownName)) s s (λ names. looked_up o x)) (sym (ap (lookup (bytes_eq x)) params ∙ absent))
     (record {
       keeps = keeps_all s.names;
       variables = refl;
@@ -60,7 +60,7 @@ name_unknown s x ps es params vars absent missing =
 
 -- a name whose value is known by now has no other
 named_only : {B : Type 0} (o : Option Plain) (x : List ℕ) (d : Plain) (g : Plain → Process B) (vars : Vars) (end : Result B Fault) (vars' : Vars) (bs : List ℕ)
-    → Runs (named o x) vars (Ok d) vars [] → Runs (named o x >>= g) vars end vars' bs → Runs (g d) vars end vars' bs
+    → Runs (looked_up o x) vars (Ok d) vars [] → Runs (looked_up o x >>= g) vars end vars' bs → Runs (g d) vars end vars' bs
 named_only (Some e) x d g vars end vars' bs h k = let same : e ≡ d = cc in subst (λ y. Runs (g y) vars end vars' bs) same k
 named_only None x d g vars end vars' bs h k = by_value (value_at vars x) h k
   where
@@ -94,18 +94,18 @@ copied v w s p copy h =
 
 -- what is found over a machine
 pub found_over : (r : Result (Bor Value) CallFault) (s : State) (x : List ℕ) (ps qs : List Variable) (es : Entries)
-    → ((s : State) → s.parameters ≡ vars_of s.names qs → s.variables ≡ values_of s.names es → AreKnown s.names qs → AreKnownIn s.names es → Evaluates plain_of known_of r s s (λ names. named (lookup (bytes_eq x) s.parameters) x))
-    → qs ≡ ps → s.parameters ≡ vars_of s.names ps → s.variables ≡ values_of s.names es → AreKnown s.names ps → AreKnownIn s.names es → Evaluates plain_of known_of r s s (λ names. named (lookup (bytes_eq x) s.parameters) x)
+    → ((s : State) → s.parameters ≡ vars_of s.names qs → s.variables ≡ values_of s.names es → AreKnown s.names qs → AreKnownIn s.names es → Evaluates plain_of known_of r s s (λ names. looked_up (lookup (bytes_eq x) s.parameters) x))
+    → qs ≡ ps → s.parameters ≡ vars_of s.names ps → s.variables ≡ values_of s.names es → AreKnown s.names ps → AreKnownIn s.names es → Evaluates plain_of known_of r s s (λ names. looked_up (lookup (bytes_eq x) s.parameters) x)
 found_over r s x ps qs es h same params vars known_ps known_es = h s (subst (λ ws. s.parameters ≡ vars_of s.names ws) (sym same) params) vars (subst (AreKnown s.names) (sym same) known_ps) known_es
 
-gives_only : {Y B : Type 0} (view : Y → B) (r : Result Y CallFault) (o : Option Plain) (x : List ℕ) (d : Plain) (g : Plain → Process B) (vars : Vars) → Runs (named o x) vars (Ok d) vars [] → Gives view r (named o x >>= g) vars → Gives view r (g d) vars
+gives_only : {Y B : Type 0} (view : Y → B) (r : Result Y CallFault) (o : Option Plain) (x : List ℕ) (d : Plain) (g : Plain → Process B) (vars : Vars) → Runs (looked_up o x) vars (Ok d) vars [] → Gives view r (looked_up o x >>= g) vars → Gives view r (g d) vars
 gives_only view (Ok y) o x d g vars h k = named_only o x d g vars (Ok (view y)) vars [] h k
 gives_only view (Err (Script e)) o x d g vars h k = named_only o x d g vars (Err e) vars [] h k
 gives_only view (Err (Memory m)) o x d g vars h k = tt
 
 -- what comes of a name comes of its value, which was found before
 pub entry_only : (s s1 : State) (x : List ℕ) (v : Value) (r : Result Value CallFault) → s1.parameters ≡ s.parameters → s1.variables ≡ s.variables → Keeps s.names s1.names → (g : Named → Plain → Process Plain)
-    → Evaluates plain AllKnown (Ok v) s s (λ names. named (lookup (bytes_eq x) s.parameters) x) → Evaluates plain AllKnown r s1 s1 (λ names. named (lookup (bytes_eq x) s1.parameters) x >>= g names)
+    → Evaluates plain AllKnown (Ok v) s s (λ names. looked_up (lookup (bytes_eq x) s.parameters) x) → Evaluates plain AllKnown r s1 s1 (λ names. looked_up (lookup (bytes_eq x) s1.parameters) x >>= g names)
     → Evaluates plain AllKnown r s1 s1 (λ names. g names (plain names v))
 entry_only s s1 x v r params vars kept g h k = record {
   keeps = k.keeps;
@@ -113,9 +113,9 @@ entry_only s s1 x v r params vars kept g h k = record {
   parameters = k.parameters;
   is_known = k.is_known;
   gives = λ final later.
-      let found = subst (λ vs. Runs (named (lookup (bytes_eq x) s.parameters) x) vs (Ok (plain (named final) v)) vs []) (sym vars) (h.gives final (keeps_then s.names s1.names final kept later)) in
+      let found = subst (λ vs. Runs (looked_up (lookup (bytes_eq x) s.parameters) x) vs (Ok (plain (named final) v)) vs []) (sym vars) (h.gives final (keeps_then s.names s1.names final kept later)) in
       gives_only (plain (named final)) r (lookup (bytes_eq x) s1.parameters) x (plain (named final) v) (g (named final)) s1.variables
-      (subst (λ ps. Runs (named (lookup (bytes_eq x) ps) x) s1.variables (Ok (plain (named final) v)) s1.variables []) (sym params) found) (k.gives final later);
+      (subst (λ ps. Runs (looked_up (lookup (bytes_eq x) ps) x) s1.variables (Ok (plain (named final) v)) s1.variables []) (sym params) found) (k.gives final later);
 }
 
 from_step : (ps : Vars) (x : List ℕ) (o : Option Plain) (t : Tree) (ts : Trees) → next_from ps x o t >>= (λ e. eval_places ps e ts) ≡ items_from ps x o (tree t ts)

@@ -22,10 +22,10 @@ use Rattle.sg_eval.specs.Vars.{Vars}
 use Rattle.sg_eval.proofs.Runs.{runs_then, runs_refused}
 
 pub keeps_then : (a b c : Known) → Keeps a b → Keeps b c → Keeps a c
-keeps_then a b c h g = λ i gens is. g i gens (h i gens is)
+keeps_then a b c h g = λ k i thing is. g k i thing (h k i thing is)
 
 pub keeps_all : (a : Known) → Keeps a a
-keeps_all a = λ i gens is. is
+keeps_all a = λ k i thing is. is
 
 gives_then : {Y A B : Type 0} (view : Y → B) (p : Process A) (f : A → Process B) (vars : Vars) (a : A) (r : Result Y CallFault) → Runs p vars (Ok a) vars [] → Gives view r (f a) vars → Gives view r (p >>= f) vars
 gives_then view p f vars a (Ok y) h g = runs_then p f vars vars vars a (Ok (view y)) [] [] h g

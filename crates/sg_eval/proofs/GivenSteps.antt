@@ -139,7 +139,7 @@ call_wrong env name gs e alone wrong =
 
 -- a call of a command that takes an arrow
 pub call_folds : (env : Vars) (name : List ℕ) (gs : List Arg) (fold : Folding) → folding_named name ≡ Some fold → eval_folding env (arguments_of gs) fold ≡ eval env (call name (arguments_of gs))
-call_folds env name gs fold named = ap (λ o. called o name (argument_count (arguments_of gs)) (eval_given env (arguments_of gs)) (eval_folding env (arguments_of gs))) (sym named)
+call_folds env name gs fold looked_up = ap (λ o. called o name (argument_count (arguments_of gs)) (eval_given env (arguments_of gs)) (eval_folding env (arguments_of gs))) (sym looked_up)
 
 -- refused at once
 pub evaluates_refuses : {Y B : Type 0} (view : Named → Y → B) (known : Named → Y → Type 0) (e : Fault) (s : State) → Evaluates view known (Err (Script e)) s s (λ names. refuses e)

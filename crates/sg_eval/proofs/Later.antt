@@ -4,14 +4,14 @@ use Rattle.sg_value.specs.Known.{Known, named}
 use Rattle.std.specs.Map.{lookup}
 use Rattle.std.specs.Str.{bytes_eq}
 use Rattle.sg_value.specs.Data.{data_map, EachThing}
-use Rattle.sg_value.specs.Plain.{AllKnown, AllKnownIn, contents, plain, plain_of_all, thing_at, IsKnown}
+use Rattle.sg_value.specs.Plain.{Named, AllKnown, AllKnownIn, contents, plain, plain_of_all, thing_at, IsKnown}
 use Rattle.sg_value.specs.declared.value.Value.{Value}
 use Rattle.sg_store.specs.Interned.{Keeps}
 use Rattle.sg_rows.specs.Order.{Plain, Reply, IsReply}
 use Rattle.sg_calls.specs.Commands.{checked, command_named}
 use Rattle.sg_rows.specs.Words.{entry_count}
 use Rattle.sg_calls.specs.Answers.{Answer, reply_unless, case_of}
-use Rattle.sg_eval.specs.Expressions.{named}
+use Rattle.sg_eval.specs.Expressions.{looked_up}
 use Rattle.sg_eval.specs.Process.{Runs}
 use Rattle.sg_eval.specs.Expressions.{known}
 use Rattle.sg_eval.specs.Outcomes.{Evaluates}
@@ -27,7 +27,7 @@ vars_later a b [] kept is_known = refl
 vars_later a b (v ∷ vs) kept is_known =
     ap₂ (λ (d : Plain) rest. (v.name, d) ∷ rest) (plain_later a b v.value kept (is_known 0 v (omega arith))) (vars_later a b vs kept (λ k d within. is_known (suc k) d (omega (arith, within))))
 
-pub entry_count-plain : (names : ℕ → Option (List ℕ)) (vs : List Value) → entry_count (plain_of_all names vs) ≡ length vs
+pub entry_count-plain : (names : Named) (vs : List Value) → entry_count (plain_of_all names vs) ≡ length vs
 entry_count-plain names [] = refl
 entry_count-plain names (v ∷ vs) = ap suc (entry_count-plain names vs)
 
@@ -39,23 +39,23 @@ call_answered a b vs name t kept is_known right h =
     (subst (λ o. reply_unless o (plain_of_all (named a) vs) (command_named name) t) (sym (ap (checked name) (entry_count-plain (named a) vs) ∙ right)) h)
 
 -- a copy of a value
-pub copy_plain : (names : ℕ → Option (List ℕ)) (v w : Value) → contents w ≡ contents v → plain names w ≡ plain names v
+pub copy_plain : (names : Named) (v w : Value) → contents w ≡ contents v → plain names w ≡ plain names v
 copy_plain names v w h = ap (data_map (thing_at names)) h
 
-pub copy_known : (names : ℕ → Option (List ℕ)) (v w : Value) → contents w ≡ contents v → AllKnown names v → AllKnown names w
+pub copy_known : (names : Named) (v w : Value) → contents w ≡ contents v → AllKnown names v → AllKnown names w
 copy_known names v w h is_known = subst (EachThing (IsKnown names)) (sym h) is_known
 
 pub parameter_found : (s : State) (name : List ℕ) (v w : Value) → lookup (bytes_eq name) s.parameters ≡ Some (plain (named s.names) v) → AllKnown (named s.names) v → contents w ≡ contents v
-    → Evaluates plain AllKnown (Ok w) s s (λ names. named (lookup (bytes_eq name) s.parameters) name)
+    → Evaluates plain AllKnown (Ok w) s s (λ names. looked_up (lookup (bytes_eq name) s.parameters) name)
 parameter_found s name v w found is_known copy =
-    subst (λ o. Evaluates plain AllKnown (Ok w) s s (λ names. named o name)) (sym found)
+    subst (λ o. Evaluates plain AllKnown (Ok w) s s (λ names. looked_up o name)) (sym found)
     (evaluates_gives plain AllKnown w s (λ names. plain (named s.names) v) (copy_known (named s.names) v w copy is_known)
     (λ final later. copy_plain (named final) v w copy ∙ plain_later s.names final v later is_known))
 
 pub variable_found : (s : State) (name : List ℕ) (v w : Value) → lookup (bytes_eq name) s.parameters ≡ None → lookup (bytes_eq name) s.variables ≡ Some (plain (named s.names) v)
-    → AllKnown (named s.names) v → contents w ≡ contents v → Evaluates plain AllKnown (Ok w) s s (λ names. named (lookup (bytes_eq name) s.parameters) name)
+    → AllKnown (named s.names) v → contents w ≡ contents v → Evaluates plain AllKnown (Ok w) s s (λ names. looked_up (lookup (bytes_eq name) s.parameters) name)
 variable_found s name v w absent found is_known copy =
-    subst (λ o. Evaluates plain AllKnown (Ok w) s s (λ names. named o name)) (sym absent)
+    subst (λ o. Evaluates plain AllKnown (Ok w) s s (λ names. looked_up o name)) (sym absent)
     (record {
       keeps = keeps_all s.names;
       variables = refl;

@@ -1,7 +1,6 @@
 -- Expressions over lawful parameters and variables ask about lawful values, and give such.
 use Rattle.std.proofs.Common.{ℕ, zero, suc, ℤ, pos, Bool, true, false, not, List, [], ◌∷◌, Option, Some, None, Ok, Err}
 use Rattle.sg_value.specs.Plain.{Things}
-use Rattle.sg_value.specs.Known.{named}
 use Rattle.std.specs.Prelude.{if◌then◌else◌, IfSome, ⊤}
 use Rattle.std.specs.Map.{lookup}
 use Rattle.std.specs.Str.{bytes_eq}
@@ -23,14 +22,14 @@ use Rattle.sg_eval.specs.Vars.{Vars}
 use Rattle.sg_eval.specs.Lawful.{AreLawfulVars, IsLawfulQuery}
 use Rattle.sg_eval.specs.declared.folding.Folding.{Folding}
 use Rattle.sg_eval.specs.declared.folding.Folding.TheVariants.{EachValue, ThoseTrue, AllTrue, AnyTrue, CountTrue}
-use Rattle.sg_eval.specs.Expressions.{known, named, replied, ask, decided, listed, negated, turned, relation, unless, plain_alone, argument_count, folding_named, called, values_over, true_over, is_each, folded, eval, eval_all, eval_places, eval_links, eval_given, eval_folding}
+use Rattle.sg_eval.specs.Expressions.{known, looked_up, replied, ask, decided, listed, negated, turned, relation, unless, plain_alone, argument_count, folding_named, called, values_over, true_over, is_each, folded, eval, eval_all, eval_places, eval_links, eval_given, eval_folding}
 use Rattle.sg_eval.proofs.SomeEnd.{StaysLawful, then_lawful, value_at_lawful}
 
 known_lawful : (o : Option Plain) → IfSome o IsLawful → StaysLawful IsLawful (known o)
 known_lawful None h = tt
 known_lawful (Some d) h = h
 
-named_lawful : (o : Option Plain) (x : List ℕ) → IfSome o IsLawful → StaysLawful IsLawful (named o x)
+named_lawful : (o : Option Plain) (x : List ℕ) → IfSome o IsLawful → StaysLawful IsLawful (looked_up o x)
 named_lawful (Some d) x h = h
 named_lawful None x h = known_lawful
 

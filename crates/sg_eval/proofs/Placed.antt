@@ -3,7 +3,7 @@ use Rattle.std.proofs.Common.{◌≡◌, ◌<◌, ◌≤◌, ℕ, zero, suc, ℤ
 use Rattle.sg_value.specs.Known.{named}
 use Rattle.std.specs.Option.{option_map}
 use Rattle.sg_value.specs.Data.{Data, Items, int, truth, text, list, fail, semigroup, ideal, none, item, data_map, items_map, EachThing, EachThingOfAll, Kind}
-use Rattle.sg_value.specs.Plain.{AllKnown, IsKnown, contents, contents_of_all, plain, thing_at, Places, Stored}
+use Rattle.sg_value.specs.Plain.{Things, AllKnown, IsKnown, contents, contents_of_all, plain, thing_at, Places, Stored}
 use Rattle.sg_value.specs.declared.value.Value.{Value}
 use Rattle.sg_rows.specs.Kinds.{as_integer, as_list}
 use Rattle.sg_rows.specs.declared.fault.Fault.TheVariants.{IndexOut}
@@ -39,13 +39,13 @@ entry_past [] k past = refl
 entry_past (u ∷ us) zero past = absurd (omega (arith, past))
 entry_past (u ∷ us) (suc k) past = entry_past us k (omega (arith, past))
 
-entry_at-map : {H : Kind → Type 0} (f : H → List ℕ) (ds : Items H) (n : ℕ) → entry_at (items_map f ds) n ≡ option_map (data_map f) (entry_from ds n)
+entry_at-map : {H : Kind → Type 0} (f : (k : Kind) → H k → Things k) (ds : Items H) (n : ℕ) → entry_at (items_map f ds) n ≡ option_map (data_map f) (entry_from ds n)
 entry_at-map f none n = refl
 entry_at-map f (item d ds) zero = refl
 entry_at-map f (item d ds) (suc zero) = refl
 entry_at-map f (item d ds) (suc (suc n)) = entry_at-map f ds (suc n)
 
-entry_at_integer-map : {H : Kind → Type 0} (f : H → List ℕ) (ds : Items H) (z : ℤ) → entry_at_integer (items_map f ds) z ≡ option_map (data_map f) (entry_in ds z)
+entry_at_integer-map : {H : Kind → Type 0} (f : (k : Kind) → H k → Things k) (ds : Items H) (z : ℤ) → entry_at_integer (items_map f ds) z ≡ option_map (data_map f) (entry_in ds z)
 entry_at_integer-map f ds (pos n) = entry_at-map f ds n
 entry_at_integer-map f ds (negsuc n) = refl
 
@@ -77,7 +77,7 @@ entries_known P fail ds is each = absurd (cc)
 entries_known P (semigroup h) ds is each = absurd (cc)
 entries_known P (ideal h) ds is each = absurd (cc)
 
-item_as : (f : ℕ → List ℕ) (l p : Stored) (ds : Items Places) (z : ℤ) (o : Option (Stored)) → as_list l ≡ Some ds → as_integer p ≡ Some z → entry_in ds z ≡ o
+item_as : (f : (k : Kind) → Places k → Things k) (l p : Stored) (ds : Items Places) (z : ℤ) (o : Option Stored) → as_list l ≡ Some ds → as_integer p ≡ Some z → entry_in ds z ≡ o
     → item_of (as_list (data_map f l)) (as_integer (data_map f p)) ≡ found_or_out (option_map (data_map f) o)
 item_as f l p ds z o is_l is_p is_o =
     ap (λ x. item_of x (as_integer (data_map f p))) (list-map f l ∙ ap (option_map (items_map f)) is_l)

@@ -3,7 +3,7 @@ use Rattle.std.proofs.Common.{◌≡◌, ◌<◌, ◌≤◌, ◌+◌, ◌-◌, �
 use Rattle.sg_value.specs.Known.{named}
 use Rattle.std.proofs.Math.IntN.{+ℤ_assoc, +ℤ_idr}
 use Rattle.sg_value.specs.Data.{int, list, none, item, items_map, data_map, depth_of_all, weight_of_all, EachThing, EachThingOfAll, Kind}
-use Rattle.sg_value.specs.Plain.{AllKnown, IsKnown, contents, contents_of_all, plain, thing_at}
+use Rattle.sg_value.specs.Plain.{Named, Things, AllKnown, IsKnown, contents, contents_of_all, plain, thing_at}
 use Rattle.sg_value.specs.declared.value.Value.{Value}
 use Rattle.sg_value.specs.declared.value.Value.TheVariants as value
 use Rattle.sg_rows.specs.Order.{Reply, fits, IsReply, Delivers}
@@ -38,7 +38,7 @@ integers_pushed vs ws v z i is seen so_far =
     let next : suc i ≡ i + 1 = omega arith in
     ap contents_of_all is ∙ (contents-more vs v ∙ (ap (λ d. join (contents_of_all vs) (item d none)) seen ∙ (ap (λ ds. join ds (item (int (z +ℤ pos i)) none)) so_far ∙ (integers_in-more z i ∙ ap (integers_in z) next))))
 
-integers_map : {H : Kind → Type 0} (f : H → List ℕ) (z : ℤ) (n : ℕ) → items_map f (integers_in z n) ≡ integers_from z n
+integers_map : {H : Kind → Type 0} (f : (k : Kind) → H k → Things k) (z : ℤ) (n : ℕ) → items_map f (integers_in z n) ≡ integers_from z n
 integers_map f z zero = refl
 integers_map f z (suc n) = ap (item (int z)) (integers_map f (z +ℤ pos 1) n)
 
@@ -70,10 +70,10 @@ module _ (x : ℤ) (k : ℕ) where
       let w = integers_weight x k in
       spanned_as (Ok (list (integers_from x k))) (inr ((λ f. f tt), inr ((λ deep. absurd (omega (arith, e, deep))), inr ((λ heavy. absurd (omega (arith, w, light, heavy))), refl))))
 
-integer_seen : (names : ℕ → Option (List ℕ)) (v : Value) (o : Option ℤ) → as_integer (contents v) ≡ o → as_integer (plain names v) ≡ o
+integer_seen : (names : Named) (v : Value) (o : Option ℤ) → as_integer (contents v) ≡ o → as_integer (plain names v) ≡ o
 integer_seen names v o is = as_integer-plain (thing_at names) (contents v) ∙ is
 
-refused_as : (a b : Value) (s : State) (e : Fault) → ((names : ℕ → Option (List ℕ)) → IsReply (span_of (plain names a) (plain names b)) (Err e)) → Evaluates plain AllKnown (Err (Script e)) s s (λ names. ask (spans (plain names a) (plain names b)))
+refused_as : (a b : Value) (s : State) (e : Fault) → ((names : Named) → IsReply (span_of (plain names a) (plain names b)) (Err e)) → Evaluates plain AllKnown (Err (Script e)) s s (λ names. ask (spans (plain names a) (plain names b)))
 refused_as a b s e h = record { keeps = keeps_all s.names; variables = refl; parameters = tt; is_known = tt; gives = λ final later. (Err e, h (named final), (refl, refl, refl)) }
 
 pub span_low : (a b : Value) (s : State) → as_integer (contents a) ≡ None → Evaluates plain AllKnown (Err (Script WrongType)) s s (λ names. ask (spans (plain names a) (plain names b)))
@@ -85,7 +85,7 @@ span_high a b s x is_a is_b = refused_as a b s WrongType (λ names.
     subst (λ o. IsReply (given o (λ z. given (as_integer (plain names b)) (λ y. fits (answers (λ d. d ≡ list (integers_from z (span_count (y -ℤ z)))))))) (Err WrongType)) (sym (integer_seen names a (Some x) is_a))
     (subst (λ o. IsReply (given o (λ y. fits (answers (λ d. d ≡ list (integers_from x (span_count (y -ℤ x))))))) (Err WrongType)) (sym (integer_seen names b None is_b)) refl))
 
-span_seen : (a b : Value) (x y : ℤ) (names : ℕ → Option (List ℕ)) (r : Reply) → as_integer (contents a) ≡ Some x → as_integer (contents b) ≡ Some y
+span_seen : (a b : Value) (x y : ℤ) (names : Named) (r : Reply) → as_integer (contents a) ≡ Some x → as_integer (contents b) ≡ Some y
     → IsReply (fits (answers (λ d. d ≡ list (integers_from x (span_count (y -ℤ x)))))) r → IsReply (span_of (plain names a) (plain names b)) r
 span_seen a b x y names r is_a is_b h =
     subst (λ o. IsReply (given o (λ z. given (as_integer (plain names b)) (λ y. fits (answers (λ d. d ≡ list (integers_from z (span_count (y -ℤ z)))))))) r) (sym (integer_seen names a (Some x) is_a))

@@ -1,7 +1,6 @@
 -- What expressions do.
 use Rattle.std.specs.Prelude.{ℕ, zero, suc, Bool, true, false, not, List, [], ◌∷◌, codes, pos, Option, Some, None, Ok, Err, if◌then◌else◌}
 use Rattle.sg_value.specs.Plain.{Things}
-use Rattle.sg_value.specs.Known.{named}
 use Rattle.std.specs.Map.{lookup}
 use Rattle.std.specs.Str.{bytes_eq}
 use Rattle.std.specs.Option.{option_map}
@@ -29,9 +28,9 @@ known None = refuses UnknownName
 known (Some d) = gives d
 
 -- a name is that of a parameter, or else of a variable
-abbrev pub named : Option Plain → List ℕ → Process Plain
-named (Some d) x = gives d
-named None x = reads x known
+abbrev pub looked_up : Option Plain → List ℕ → Process Plain
+looked_up (Some d) x = gives d
+looked_up None x = reads x known
 
 abbrev pub replied : Reply → Process Plain
 replied (Ok d) = gives d
@@ -133,7 +132,7 @@ abbrev mutual
   eval env (quoted bs) = gives (text bs)
   eval env (truth b) = gives (a_truth b)
   eval env failing = gives fail
-  eval env (variable x) = named (lookup (bytes_eq x) env) x
+  eval env (variable x) = looked_up (lookup (bytes_eq x) env) x
   eval env (call name args) = called (folding_named name) name (argument_count args) (eval_given env args) (eval_folding env args)
   eval env (display ts) = eval_all env ts >>= (λ ds. ask (lists ds))
   eval env (span low high) = eval env low >>= (λ a. eval env high >>= (λ b. ask (spans a b)))

@@ -8,7 +8,7 @@ use Rattle.sg_tree.specs.declared.expr.Op.TheVariants.{Or, And, Plus, Less, Time
 use Rattle.sg_calls.specs.declared.operator.Operator.{Operator}
 use Rattle.sg_calls.specs.declared.operator.Operator.TheVariants as operator
 use Rattle.sg_rows.specs.Order.{Plain}
-use Rattle.sg_eval.specs.Expressions.{eval, eval_places, decided, named, ask}
+use Rattle.sg_eval.specs.Expressions.{eval, eval_places, decided, looked_up, ask}
 use Rattle.sg_eval.specs.Process.{Process, gives, ◌>>=◌}
 use Rattle.sg_eval.specs.Queries.{combines, indexes}
 use Rattle.sg_eval.specs.Vars.{Vars}
@@ -46,14 +46,14 @@ placed env d t = eval env t >>= (λ i. ask (indexes d i))
 
 -- the entry of the list of a name, and what an operator gives of a value and that of a name
 abbrev pub entry_of : Vars → List ℕ → Plain → Process Plain
-entry_of env x i = named (lookup (bytes_eq x) env) x >>= (λ d. ask (indexes d i))
+entry_of env x i = looked_up (lookup (bytes_eq x) env) x >>= (λ d. ask (indexes d i))
 
 abbrev pub combined_with : Vars → Operator → Plain → List ℕ → Process Plain
-combined_with env op a x = named (lookup (bytes_eq x) env) x >>= (λ b. ask (combines op a b))
+combined_with env op a x = looked_up (lookup (bytes_eq x) env) x >>= (λ b. ask (combines op a b))
 
 -- the list that places are looked for in: a value, or at first that of a name
 abbrev pub start_of : Vars → List ℕ → Option Plain → Process Plain
-start_of env x None = named (lookup (bytes_eq x) env) x
+start_of env x None = looked_up (lookup (bytes_eq x) env) x
 start_of env x (Some d) = gives d
 
 abbrev pub items_from : Vars → List ℕ → Option Plain → Trees → Process Plain

@@ -35,7 +35,7 @@ impl Machine {
     ghost use Rattle.sg_eval.specs.Vars.{Vars, with_value};
     ghost use Rattle.sg_eval.specs.Statements.{texts_of};
     ghost use Rattle.sg_eval.specs.Queries.{calls, combines};
-    ghost use Rattle.sg_eval.specs.Expressions.{named, ask};
+    ghost use Rattle.sg_eval.specs.Expressions.{looked_up, ask};
     ghost use Rattle.sg_eval.specs.Outcomes.{Evaluates, Finds};
     ghost use Rattle.sg_eval.specs.Linked.{entry_of, combined_with};
     ghost use Rattle.sg_eval.specs.Machine.{state_of};
@@ -54,7 +54,7 @@ impl Machine {
 
     /// The value of a parameter, or else of a variable.
     pub fn named(&self, alloc: Global, name: &[u8]) -> Result<Value, CallFault>
-        ensures { Evaluates plain AllKnown result (state_of self.now) (state_of self.now) (λ names. named (lookup (bytes_eq name.now) (state_of self.now).parameters) name.now) }
+        ensures { Evaluates plain AllKnown result (state_of self.now) (state_of self.now) (λ names. looked_up (lookup (bytes_eq name.now) (state_of self.now).parameters) name.now) }
     {
         let value = find_in(&self.parameters, &self.variables, name)?;
         Ok(try_clone(value, alloc)?)
@@ -62,7 +62,7 @@ impl Machine {
 
     /// Whether a parameter or a variable of this name has a value.
     pub fn check_named(&self, name: &[u8]) -> Result<(), CallFault>
-        ensures { Finds result (state_of self.now) (λ names. named (lookup (bytes_eq name.now) (state_of self.now).parameters) name.now) }
+        ensures { Finds result (state_of self.now) (λ names. looked_up (lookup (bytes_eq name.now) (state_of self.now).parameters) name.now) }
     {
         find_in(&self.parameters, &self.variables, name)?;
         Ok(())

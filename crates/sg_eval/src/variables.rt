@@ -6,7 +6,7 @@ ghost use Rattle.std.specs.Map.{lookup};
 ghost use Rattle.std.specs.Str.{bytes_eq};
 ghost use Rattle.sg_value.specs.Plain.{AllKnown, plain};
 ghost use Rattle.sg_eval.specs.State.{State, vars_of, values_of, AreKnown, AreKnownIn};
-ghost use Rattle.sg_eval.specs.Expressions.{named};
+ghost use Rattle.sg_eval.specs.Expressions.{looked_up};
 ghost use Rattle.sg_eval.specs.Outcomes.{Evaluates, plain_of, known_of};
 ghost use Rattle.sg_eval.specs.Vars.{with_value};
 
@@ -52,7 +52,7 @@ pub fn find_in<'a>(
     variables: &'a Variables,
     name: &[u8],
 ) -> Result<&'a Value, CallFault>
-    ensures { (s : State) → s.parameters ≡ vars_of s.names parameters.now → s.variables ≡ values_of s.names variables.now.entries → AreKnown s.names parameters.now → AreKnownIn s.names variables.now.entries → Evaluates plain_of known_of result s s (λ names. named (lookup (bytes_eq name.now) s.parameters) name.now) }
+    ensures { (s : State) → s.parameters ≡ vars_of s.names parameters.now → s.variables ≡ values_of s.names variables.now.entries → AreKnown s.names parameters.now → AreKnownIn s.names variables.now.entries → Evaluates plain_of known_of result s s (λ names. looked_up (lookup (bytes_eq name.now) s.parameters) name.now) }
 {
     if let Some(value) = find(parameters, name) {
         return Ok(value);

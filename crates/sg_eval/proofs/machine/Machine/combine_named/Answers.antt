@@ -5,7 +5,7 @@ use Rattle.std.specs.Str.{bytes_eq}
 use Rattle.sg_value.specs.Plain.{AllKnown, plain}
 use Rattle.sg_calls.specs.Operations.{operation}
 use Rattle.sg_rows.specs.Order.{IsReply}
-use Rattle.sg_eval.specs.Expressions.{named, ask}
+use Rattle.sg_eval.specs.Expressions.{looked_up, ask}
 use Rattle.sg_eval.specs.Machine.{state_of}
 use Rattle.sg_eval.specs.Outcomes.{plain_of, known_of}
 use Rattle.sg_eval.specs.Queries.{combines}
@@ -33,7 +33,7 @@ returns-in_err-b c =
     let m = c.args.self.now in
     let s = state_of m in
     let x = c.args.name.now in
-    evaluates_exit plain_of known_of plain AllKnown c.from_residual.result _ s s (λ names. named (lookup (bytes_eq x) s.parameters) x) (λ names d. ask (combines c.args.op (plain names c.args.a.now) d)) c.from_residual.ensures.1
+    evaluates_exit plain_of known_of plain AllKnown c.from_residual.result _ s s (λ names. looked_up (lookup (bytes_eq x) s.parameters) x) (λ names d. ask (combines c.args.op (plain names c.args.a.now) d)) c.from_residual.ensures.1
     (found_over (Err c.in_err-b.field-0.0) s x m.parameters.items c.deref.result.now m.variables.entries c.in_err-b.ensures c.deref.ensures.value refl refl m.known.1 m.known.0)
 
 pub returns : goal.returns
@@ -49,7 +49,7 @@ returns c =
     let x = c.args.name.now in
     let s1 : State = record { names = b; variables = values_of b m.variables.entries; parameters = vars_of b m.parameters.items } in
     let h = found_over (Ok v) s x m.parameters.items c.deref.result.now m.variables.entries c.in_ok-b.ensures c.deref.ensures.value refl refl m.known.1 m.known.0 in
-    evaluates_then plain_of known_of plain AllKnown v c.combine.result s s s1 (λ names. named (lookup (bytes_eq x) s.parameters) x) (λ names d. ask (combines op (plain names u) d)) h
+    evaluates_then plain_of known_of plain AllKnown v c.combine.result s s s1 (λ names. looked_up (lookup (bytes_eq x) s.parameters) x) (λ names d. ask (combines op (plain names u) d)) h
     (evaluates_reply c.combine.result s s1 (operation op (plain (named a) u) (plain (named a) v.now)) (λ names. combines op (plain names u) (plain names v.now))
     kept (values_later a b m.variables.entries kept m.known.0) (vars_later a b m.parameters.items kept m.known.1)
     (λ final later t g. subst (λ d. IsReply (operation op d (plain (named final) v.now)) t) (sym (plain_later a final u (keeps_then a b final kept later) c.requires))
