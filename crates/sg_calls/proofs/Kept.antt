@@ -1,5 +1,4 @@
 -- Values over a store that grew.
-use Rattle.std.proofs.Common.{ℕ, List, slice_get}
 use Rattle.sg_value.specs.Known.{Known, named}
 use Rattle.sg_value.specs.Plain.{AllKnown, contents}
 use Rattle.sg_value.specs.declared.value.Value.{Value}

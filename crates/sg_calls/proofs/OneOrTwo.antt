@@ -1,5 +1,5 @@
 -- Calls with one argument or two.
-use Rattle.std.proofs.Common.{◌≡◌, ℕ, List, [], ◌∷◌, length, get_or, ap, ◌∙◌, arith}
+use Rattle.std.proofs.Common.{◌≡◌, List, [], ◌∷◌, length, get_or, ap, ◌∙◌, arith}
 use Rattle.sg_value.specs.Data.{Items, none, item}
 use Rattle.sg_value.specs.Plain.{Named, plain, plain_of_all, Things}
 use Rattle.sg_value.specs.declared.value.Value.{Value}

@@ -1,7 +1,7 @@
 -- Commands and operators have one reply.
 use Rattle.std.proofs.Common.{◌≡◌, ℕ, ℤ, pos, List, Option, Some, None, sym, ◌∙◌}
 use Rattle.sg_value.specs.Plain.{Things}
-use Rattle.std.specs.Prelude.{◌-ℤ◌, ◌<ℤ◌, ◌≤ℤ◌}
+use Rattle.std.specs.Prelude.{◌-ℤ◌}
 use Rattle.sg_value.specs.Data.{int, Items}
 use Rattle.sg_rows.specs.Order.{Plain, fits, IsReply}
 use Rattle.sg_rows.specs.Kinds.{given, sole, as_list, as_integer, as_semigroup, spread, answers, whether}
@@ -9,7 +9,7 @@ use Rattle.sg_rows.specs.Words.{IsEntry, entry_count}
 use Rattle.sg_rows.specs.declared.fault.Fault.{Fault}
 use Rattle.sg_rows.proofs.OneValue.{One, OneValue, reply_one, given_one, is_one, integer_one, whether_one, semigroup_one}
 use Rattle.sg_rows.proofs.Counted.{two_one, three_one}
-use Rattle.sg_lists.specs.Lists.{gcd_of, lcm_of, concatenation_of}
+use Rattle.sg_lists.specs.Lists.{gcd_of, lcm_of}
 use Rattle.sg_lists.proofs.OneEntry.{gcd_one, lcm_one, concatenation_one}
 use Rattle.sg_makers.specs.Makers.{semigroup_of}
 use Rattle.sg_makers.specs.Words.{naturals}

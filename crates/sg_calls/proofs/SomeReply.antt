@@ -15,7 +15,7 @@ use Rattle.sg_rows.specs.declared.fault.Fault.{Fault}
 use Rattle.sg_rows.proofs.EqualData.{data-decided, entry-decided}
 use Rattle.sg_rows.proofs.SomeValue.{SomeValue, reply_some, given_some, answers_some, bad_some, integer_some, whether_some, is_some_value, any_some, sole_lawful}
 use Rattle.sg_rows.proofs.SomeListed.{two_some, three_some}
-use Rattle.sg_lists.specs.Lists.{gcd_of, lcm_of, concatenation_of}
+use Rattle.sg_lists.specs.Lists.{gcd_of, lcm_of}
 use Rattle.sg_lists.proofs.SomeEntry.{gcd_some, lcm_some, concatenation_some}
 use Rattle.sg_makers.specs.Makers.{semigroup_of}
 use Rattle.sg_makers.specs.Derived.{intersection_of, quotient_of}

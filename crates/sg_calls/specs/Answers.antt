@@ -1,18 +1,13 @@
 -- What calls answer.
-use Rattle.std.specs.Prelude.{◌≡◌, ℕ, List, Option, Some, None, Result, Ok, Err, slice_get, ⊤}
-use Rattle.sg_value.specs.Data.{Data, Items}
-use Rattle.sg_value.specs.Plain.{plain, AllKnown, Things}
-use Rattle.sg_value.specs.declared.value.Value.{Value}
+use Rattle.std.specs.Prelude.{◌≡◌, ℕ, List, Option, Some, None, Err}
+use Rattle.sg_value.specs.Data.{Items}
+use Rattle.sg_value.specs.Plain.{Things}
 use Rattle.sg_rows.specs.Order.{Reply, Case, unfit, IsReply}
 use Rattle.sg_calls.specs.Commands.{checked, command_named}
 use Rattle.sg_calls.specs.Rows.{row}
 use Rattle.sg_rows.specs.Words.{entry_count}
-use Rattle.sg_rows.specs.Kinds.{as_integers}
-use Rattle.sg_rows.specs.declared.fault.Fault.TheVariants.{WrongType}
 use Rattle.sg_calls.specs.declared.command.Command.{Command}
 use Rattle.sg_rows.specs.declared.fault.Fault.{Fault}
-use Rattle.sg_rows.specs.declared.fault.CallFault.{CallFault}
-use Rattle.sg_rows.specs.declared.fault.CallFault.TheVariants.{Script, Memory}
 
 -- what a command, if there is one, says of arguments
 abbrev pub case_of : Option Command → Items Things → Case

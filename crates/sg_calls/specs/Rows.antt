@@ -1,5 +1,4 @@
 -- Which row answers which command.
-use Rattle.std.specs.Prelude.{ℕ, List}
 use Rattle.sg_value.specs.Plain.{Things}
 use Rattle.sg_value.specs.Data.{Items}
 use Rattle.sg_rows.specs.Order.{Case}

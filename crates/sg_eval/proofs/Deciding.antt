@@ -1,5 +1,5 @@
 -- Truth values, and signs before operands.
-use Rattle.std.proofs.Common.{◌≡◌, ◌+◌, ℕ, zero, suc, Bool, true, false, not, Result, Ok, Err, IsErrAnd, slice_get, refl, ap, sym, ◌∙◌, subst, arith}
+use Rattle.std.proofs.Common.{◌≡◌, ◌+◌, ℕ, zero, suc, Bool, true, false, not, Result, Ok, Err, IsErrAnd, refl, ap, sym, ◌∙◌, subst, arith}
 use Rattle.sg_value.specs.Known.{named}
 use Rattle.std.proofs.Math.Path.{fun_ext}
 use Rattle.sg_value.specs.Data.{int, truth, text, list, fail, semigroup, ideal, data_map, EachThing}

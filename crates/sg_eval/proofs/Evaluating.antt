@@ -1,5 +1,5 @@
 -- What a call over a machine gives, after what another gave.
-use Rattle.std.proofs.Common.{◌≡◌, ℕ, List, [], Result, Ok, Err, OnOk, IfOk, IsErrAnd, slice_get, refl, ap, sym, ◌∙◌, subst}
+use Rattle.std.proofs.Common.{◌≡◌, List, [], Result, Ok, Err, OnOk, IfOk, IsErrAnd, refl, ap, sym, ◌∙◌, subst}
 use Rattle.sg_value.specs.Known.{Known, named}
 use Rattle.std.specs.declared.alloc.AllocError.{AllocError}
 use Rattle.std.proofs.Math.Path.{fun_ext}

@@ -1,5 +1,5 @@
 -- A command with an arrow, entry by entry.
-use Rattle.std.proofs.Common.{◌≡◌, ◌⊎◌, ℕ, ℤ, inl, inr, IsErrAnd, suc, List, [], ◌∷◌, ◌++◌, length, Bool, true, false, not, Result, Ok, Err, OnOk, pos, slice_get, refl, ap, sym, ◌∙◌, subst}
+use Rattle.std.proofs.Common.{◌≡◌, ◌⊎◌, ℤ, inl, inr, IsErrAnd, suc, List, [], ◌∷◌, ◌++◌, length, Bool, true, false, not, Result, Ok, Err, OnOk, pos, refl, ap, sym, ◌∙◌, subst}
 use Rattle.sg_value.specs.Known.{named}
 use Rattle.std.proofs.Math.Path.{fun_ext}
 use Rattle.std.specs.Prelude.{if◌then◌else◌}

@@ -1,5 +1,5 @@
 -- Arguments, one after the other.
-use Rattle.std.proofs.Common.{◌≡◌, ◌<◌, ◌+◌, ℕ, suc, List, [], ◌∷◌, length, get_or, drop, Option, Some, None, MatchOption, length-append, Result, Ok, Err, IsErrAnd, Vec, Global, slice_get, refl, ap, sym, ◌∙◌, subst}
+use Rattle.std.proofs.Common.{◌≡◌, ◌<◌, ◌+◌, ℕ, suc, List, [], ◌∷◌, length, get_or, drop, Option, Some, None, MatchOption, length-append, Result, Ok, Err, IsErrAnd, Vec, Global, refl, ap, sym, ◌∙◌, subst}
 use Rattle.sg_value.specs.Known.{Known, named}
 use Rattle.std.proofs.Math.Path.{fun_ext}
 use Rattle.std.proofs.lemmas.List.{drop_more}

@@ -1,5 +1,5 @@
 -- Variables over a later store, and values found by their names.
-use Rattle.std.proofs.Common.{◌≡◌, ◌∷◌, ℕ, suc, List, [], Option, Some, None, Ok, length, get_or, slice_get, refl, ap, ap₂, sym, ◌∙◌, subst, arith}
+use Rattle.std.proofs.Common.{◌≡◌, ◌∷◌, ℕ, suc, List, [], Some, None, Ok, length, get_or, refl, ap, ap₂, sym, ◌∙◌, subst, arith}
 use Rattle.sg_value.specs.Known.{Known, named}
 use Rattle.std.specs.Map.{lookup}
 use Rattle.std.specs.Str.{bytes_eq}

@@ -1,5 +1,5 @@
 -- Expressions over lawful parameters and variables ask about lawful values, and give such.
-use Rattle.std.proofs.Common.{ℕ, zero, suc, ℤ, pos, Bool, true, false, not, List, [], ◌∷◌, Option, Some, None, Ok, Err}
+use Rattle.std.proofs.Common.{ℕ, zero, suc, pos, Bool, true, false, not, List, ◌∷◌, Option, Some, None, Ok, Err}
 use Rattle.sg_value.specs.Plain.{Things}
 use Rattle.std.specs.Prelude.{if◌then◌else◌, IfSome, ⊤}
 use Rattle.std.specs.Map.{lookup}
@@ -17,7 +17,7 @@ use Rattle.sg_rows.specs.Lawful.{IsLawful, AreLawful, IsLawfulReply}
 use Rattle.sg_rows.proofs.SomeValue.{as_list_lawful}
 use Rattle.sg_calls.specs.Commands.{checked}
 use Rattle.sg_eval.specs.Queries.{Query, calls, combines, negates, lists, spans, indexes}
-use Rattle.sg_eval.specs.Process.{Process, gives, refuses, reads, ◌>>=◌}
+use Rattle.sg_eval.specs.Process.{Process, gives, refuses, ◌>>=◌}
 use Rattle.sg_eval.specs.Vars.{Vars}
 use Rattle.sg_eval.specs.Lawful.{AreLawfulVars, IsLawfulQuery}
 use Rattle.sg_eval.specs.declared.folding.Folding.{Folding}

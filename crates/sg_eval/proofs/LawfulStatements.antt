@@ -1,7 +1,7 @@
 -- Statements over lawful variables ask about lawful values, and leave lawful variables.
 use Rattle.std.proofs.Common.{ℕ, Bool, true, false, List, [], Option, Some, None}
 use Rattle.sg_value.specs.Plain.{Things}
-use Rattle.std.specs.Prelude.{codes, if◌then◌else◌, IfSome, ⊤}
+use Rattle.std.specs.Prelude.{codes, if◌then◌else◌, ⊤}
 use Rattle.std.specs.Str.{bytes_eq}
 use Rattle.sg_value.specs.Data.{Items, none, item}
 use Rattle.sg_tree.specs.Tree.{Tree, number, quoted, truth, failing, variable, call, display, span, minus, negation, chain, compare, item as item_tree, Arguments, Code, nothing, quit, assign, choose, each, perform, Arms, no_arms, arm, Block, skip, code}
@@ -11,7 +11,7 @@ use Rattle.sg_rows.specs.Lawful.{IsLawful, AreLawful}
 use Rattle.sg_rows.proofs.SomeValue.{as_list_lawful}
 use Rattle.sg_eval.specs.Process.{Process, gives, sets, ◌>>=◌}
 use Rattle.sg_eval.specs.Expressions.{eval, eval_given, decided, listed}
-use Rattle.sg_eval.specs.Statements.{Going, on, texts_of, printed, call_done, done, over, exec, exec_all, exec_arms, whole}
+use Rattle.sg_eval.specs.Statements.{on, printed, call_done, done, over, exec, exec_all, exec_arms, whole}
 use Rattle.sg_eval.specs.Lawful.{AreLawfulVars, SomeEnd}
 use Rattle.sg_eval.specs.Vars.{Vars}
 use Rattle.sg_eval.proofs.SomeEnd.{StaysLawful, then_lawful, end_some}

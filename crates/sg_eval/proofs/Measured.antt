@@ -1,5 +1,5 @@
 -- Plain lists and the limits on them.
-use Rattle.std.proofs.Common.{◌≡◌, ◌<◌, ◌≤◌, ◌+◌, ◌^◌, ◌-◌, ℕ, suc, min, max, List, Ok, Err, Vec, Global, slice_get, inl, inr, refl, ap, ap₂, sym, ◌∙◌, subst, arith, rules}
+use Rattle.std.proofs.Common.{◌≡◌, ◌<◌, ◌≤◌, ◌+◌, ◌^◌, ◌-◌, ℕ, suc, min, max, List, Ok, Err, Vec, Global, inl, inr, refl, ap, ap₂, sym, ◌∙◌, subst, arith, rules}
 use Rattle.sg_value.specs.Known.{Known, named}
 use Rattle.sg_value.specs.Data.{Data, int, truth, text, list, fail, semigroup, ideal, Items, none, item, data_map, items_map, depth_of, depth_of_all, weight_of, weight_of_all, EachThing, Kind}
 use Rattle.sg_value.specs.Plain.{AllKnownIn, IsKnown, contents, contents_of_all, plain_of_all, thing_at}

@@ -1,5 +1,5 @@
 -- Variables that are found by their names.
-use Rattle.std.proofs.Common.{◌≡◌, ℕ, zero, suc, List, [], ◌∷◌, get_or, Bool, true, false, cond, Option, Some, None, MatchOption, Bor, Result, Ok, Err, OnOk, OnErr, Vec, Global, slice_get, refl, ap, ap₂, sym, subst, arith}
+use Rattle.std.proofs.Common.{◌≡◌, ℕ, zero, suc, List, [], ◌∷◌, get_or, Bool, true, false, cond, Option, Some, None, MatchOption, Bor, Result, Ok, Err, OnOk, OnErr, Vec, Global, refl, ap, ap₂, sym, subst, arith}
 use Rattle.sg_value.specs.Known.{Known, named}
 use Rattle.std.specs.Prelude.{⊤}
 use Rattle.std.proofs.lemmas.Slice.Eq.{bytes_eq-Decides}

@@ -1,19 +1,18 @@
 -- A process that asks only about lawful values, as long as it is given such, runs to an end.
-use Rattle.std.proofs.Common.{◌≡◌, ℕ, zero, suc, ℤ, pos, negsuc, Bool, true, false, List, [], ◌∷◌, ◌++◌, Option, Some, None, Result, Ok, Err, cond, refl}
+use Rattle.std.proofs.Common.{◌≡◌, ℕ, zero, suc, ℤ, pos, negsuc, Bool, true, false, List, [], ◌∷◌, ◌++◌, Option, Some, None, Ok, Err, cond, refl}
 use Rattle.sg_value.specs.Plain.{Things}
-use Rattle.std.specs.Prelude.{◌+ℤ◌, ◌-ℤ◌, IfSome, IfOk, ⊤}
+use Rattle.std.specs.Prelude.{◌+ℤ◌, ◌-ℤ◌, IfSome, ⊤}
 use Rattle.std.specs.Map.{lookup}
 use Rattle.std.specs.Str.{bytes_eq}
-use Rattle.sg_value.specs.Data.{int, list, Items, none, item}
+use Rattle.sg_value.specs.Data.{list, Items, none, item}
 use Rattle.sg_rows.specs.Order.{Plain, Reply, fits}
 use Rattle.sg_rows.specs.Kinds.{given, as_integer, as_list, answers}
 use Rattle.sg_rows.specs.Lawful.{IsLawful, AreLawful, IsLawfulReply, SomeReply}
-use Rattle.sg_rows.specs.declared.fault.Fault.{Fault}
 use Rattle.sg_rows.proofs.SomeValue.{reply_some, given_some, answers_some, is_some_value, any_some, as_list_lawful}
 use Rattle.sg_calls.proofs.SomeReply.{commands_some, operators_some, sign_some}
 use Rattle.sg_eval.specs.Lawful.{AreLawfulVars, IsLawfulQuery, SomeEnd}
-use Rattle.sg_eval.specs.Process.{Process, gives, refuses, reads, asks, sets, writes, ◌>>=◌, Runs}
-use Rattle.sg_eval.specs.Queries.{Query, calls, combines, negates, lists, spans, indexes, IsAnswer, span_of, integers_from, span_count, entry_at, entry_at_integer, found_or_out, item_of}
+use Rattle.sg_eval.specs.Process.{Process, gives, refuses, reads, asks, sets, writes, ◌>>=◌}
+use Rattle.sg_eval.specs.Queries.{Query, calls, combines, negates, lists, spans, indexes, IsAnswer, span_of, integers_from, span_count, entry_at, found_or_out, item_of}
 use Rattle.sg_eval.specs.Vars.{Vars, value_at, with_value}
 
 -- ---- queries

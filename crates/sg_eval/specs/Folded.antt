@@ -1,5 +1,5 @@
 -- A command with an arrow, entry by entry.
-use Rattle.std.specs.Prelude.{Bool, true, false, not, pos, Option, Some, None, List, ◌∷◌, ℕ, if◌then◌else◌}
+use Rattle.std.specs.Prelude.{Bool, true, false, not, pos, Option, Some, None, ◌∷◌, if◌then◌else◌}
 use Rattle.sg_value.specs.Plain.{Things}
 use Rattle.sg_value.specs.Data.{Data, int, truth, text, list, fail, semigroup, ideal, Items, none, item, Kind}
 use Rattle.sg_tree.specs.Tree.{Argument, plain as plain_argument, arrow}

@@ -1,5 +1,5 @@
 -- The arguments of a call, one by one.
-use Rattle.std.specs.Prelude.{◌≡◌, ℕ, List, [], ◌∷◌, ◌++◌, Option, Some, None, Vec, ⊤}
+use Rattle.std.specs.Prelude.{◌≡◌, [], ◌∷◌, ◌++◌, Option, Some, None, Vec, ⊤}
 use Rattle.std.specs.Global.{Global}
 use Rattle.sg_value.specs.Data.{Items}
 use Rattle.sg_value.specs.Plain.{Named, AllKnown, plain, Things}

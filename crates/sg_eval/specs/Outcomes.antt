@@ -1,9 +1,9 @@
 -- What calls gave and did.
-use Rattle.std.specs.Prelude.{◌≡◌, ℕ, List, [], Result, Ok, Err, IfOk, OnOk, slice_get, Vec, ⊤}
+use Rattle.std.specs.Prelude.{◌≡◌, [], Result, Ok, Err, IfOk, OnOk, Vec, ⊤}
 use Rattle.sg_value.specs.Known.{Known, named}
 use Rattle.std.specs.Borrow.{Bor}
 use Rattle.std.specs.Global.{Global}
-use Rattle.sg_value.specs.Data.{Items, semigroups}
+use Rattle.sg_value.specs.Data.{Items}
 use Rattle.sg_value.specs.declared.value.Value.{Value}
 use Rattle.sg_value.specs.Plain.{Named, AllKnown, AllKnownIn, plain, plain_of_all, Things}
 use Rattle.sg_store.specs.Interned.{Keeps}

@@ -1,6 +1,5 @@
 -- What a machine holds, as contracts see it.
-use Rattle.std.specs.Prelude.{ℕ, List, map, All, slice_get, Vec}
-use Rattle.sg_value.specs.Data.{semigroups}
+use Rattle.std.specs.Prelude.{ℕ, List, map, All, Vec}
 use Rattle.sg_value.specs.Known.{Known, named}
 use Rattle.std.specs.Global.{Global}
 use Rattle.sg_value.specs.declared.value.Value.{Value}

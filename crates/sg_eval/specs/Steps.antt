@@ -3,7 +3,7 @@ use Rattle.std.specs.Prelude.{◌≡◌, ℕ, Bool, true, false, List, [], codes
 use Rattle.sg_value.specs.Plain.{Things}
 use Rattle.std.specs.Io.KnownBytes.{append_known}
 use Rattle.std.specs.Str.{bytes_eq}
-use Rattle.sg_value.specs.Data.{Items, semigroups}
+use Rattle.sg_value.specs.Data.{Items}
 use Rattle.sg_rows.specs.Kinds.{as_list}
 use Rattle.sg_tree.specs.Tree.{Tree, number, quoted, truth, failing, variable, call, display, span, minus, negation, chain, compare, item as item_tree, Arguments, Code, nothing, quit, assign, choose, each, perform, Arms, no_arms, arm}
 use Rattle.sg_store.specs.Interned.{Keeps}

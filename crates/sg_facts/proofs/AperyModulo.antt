@@ -1,5 +1,5 @@
 -- The row of the Apery list modulo a member.
-use Rattle.std.proofs.Common.{◌≡◌, ◌<◌, ◌⊎◌, ℕ, zero, suc, ℤ, List, false, inl, inr, refl, arith}
+use Rattle.std.proofs.Common.{◌≡◌, ◌<◌, ◌⊎◌, ℕ, ℤ, List, false, inl, inr, refl, arith}
 use Rattle.std.specs.Prelude.{pos, negsuc, ◌<ℤ◌, unsigned_abs}
 use Rattle.std.proofs.lemmas.Int.{ints}
 use lib.Signed.{lt_z}

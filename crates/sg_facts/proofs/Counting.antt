@@ -1,12 +1,11 @@
 -- The lists of gaps and of small elements: how long they are, and how far they reach.
-use Rattle.std.proofs.Common.{◌≡◌, ◌+◌, ◌-◌, ◌<◌, ◌≤◌, ◌↔◌, ◌⊎◌, ℕ, zero, suc, ℤ, List, [], ◌∷◌, ◌++◌, length, inl, inr, refl, ap, sym, ◌∙◌, subst, arith}
-use Rattle.std.specs.Prelude.{pos, ◌+ℤ◌, ◌-ℤ◌, ◌<ℤ◌, ◌≤ℤ◌}
+use Rattle.std.proofs.Common.{◌≡◌, ◌+◌, ◌<◌, ◌≤◌, ◌⊎◌, ℕ, zero, suc, ℤ, List, [], ◌∷◌, ◌++◌, length, inl, inr, refl, ap, ◌∙◌, subst, arith}
+use Rattle.std.specs.Prelude.{pos, ◌+ℤ◌, ◌-ℤ◌, ◌≤ℤ◌}
 use Rattle.std.proofs.lemmas.Int.{ints}
 use Rattle.std.proofs.lemmas.List.{length_push}
 use Rattle.sg_defs.specs.Listings.{Lists}
 use Rattle.sg_defs.specs.Membership.{IsMember}
-use Rattle.sg_defs.specs.Invariants.{IsFrobenius, IsConductor, IsGap, IsGenus, AreSmallElements}
-use Rattle.sg_apery.specs.Fit.{IsSpan}
+use Rattle.sg_defs.specs.Invariants.{IsConductor, IsGap, IsGenus, AreSmallElements}
 use Rattle.sg_apery.specs.declared.limits.TheConstants.{SPAN_LIMIT}
 use Rattle.sg_apery.proofs.OneListLemmas.{one-list}
 use Rattle.sg_invar.proofs.ListingLemmas.{ListsBelow, lists-none, lists-skip, lists-push, lists-same, lists-all}

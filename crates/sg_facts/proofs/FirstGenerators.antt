@@ -1,5 +1,5 @@
 -- The first of the minimal generators is the least member above 0.
-use Rattle.std.proofs.Common.{◌≡◌, ◌<◌, ℕ, List, get_or, inl, inr, arith}
+use Rattle.std.proofs.Common.{◌≡◌, ℕ, List, get_or, inl, inr, arith}
 use Rattle.sg_defs.specs.Membership.{IsNumericalSemigroup, IsMinimal, IsMultiplicity}
 use Rattle.sg_defs.proofs.MembershipLemmas.{member-entry}
 use Rattle.sg_apery.proofs.GeneratorLemmas.{member-split}

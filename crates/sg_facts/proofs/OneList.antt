@@ -1,8 +1,8 @@
 -- The rows that tell a list have one value.
-use Rattle.std.proofs.Common.{◌≡◌, ◌<◌, ℕ, ℤ, List, get_or, ap, sym, ◌∙◌, subst, arith}
+use Rattle.std.proofs.Common.{◌≡◌, ◌<◌, ℕ, ℤ, List, get_or, sym, ◌∙◌, subst, arith}
 use Rattle.std.proofs.lemmas.Grind.{same_number_lists}
 use Rattle.sg_defs.specs.Apery.{IsApery, IsAperyEntry}
-use Rattle.sg_defs.specs.Membership.{IsMember, IsMultiplicity}
+use Rattle.sg_defs.specs.Membership.{IsMember}
 use Rattle.sg_defs.specs.Listings.{ListsIntegers}
 use Rattle.sg_defs.specs.Invariants.{IsPseudoFrobenius, IsSpecialGap}
 use Rattle.sg_rows.specs.Order.{Plain, fits}

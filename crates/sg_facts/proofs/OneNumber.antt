@@ -1,5 +1,5 @@
 -- The rows that tell a number have one value.
-use Rattle.std.proofs.Common.{◌≡◌, ℕ, ℤ, List, length, ap, sym, ◌∙◌, arith}
+use Rattle.std.proofs.Common.{◌≡◌, ℕ, List, length, ap, sym, ◌∙◌, arith}
 use Rattle.std.specs.Prelude.{pos, ◌-ℤ◌}
 use Rattle.std.proofs.lemmas.Int.{ints}
 use Rattle.sg_defs.specs.Membership.{IsMultiplicity}

@@ -1,6 +1,5 @@
 -- The rows that tell a list of a semigroup have a value.
 use Rattle.std.proofs.Common.{◌≡◌, ℕ, List}
-use Rattle.sg_defs.specs.Apery.{IsApery}
 use Rattle.sg_defs.specs.Listings.{ListsIntegers}
 use Rattle.sg_defs.specs.Membership.{IsNumericalSemigroup}
 use Rattle.sg_defs.specs.Invariants.{IsPseudoFrobenius, IsSpecialGap}

@@ -1,9 +1,8 @@
 -- The row of the Apery list modulo a member has a value.
-use Rattle.std.proofs.Common.{◌≡◌, ℕ, zero, suc, ◌<◌, ℤ, pos, negsuc, List, refl, inl, inr, arith}
+use Rattle.std.proofs.Common.{ℕ, zero, suc, ℤ, pos, negsuc, List, refl, inl, inr, arith}
 use Rattle.std.specs.Prelude.{◌⊎◌, ◌<ℤ◌}
 use Rattle.std.proofs.lemmas.Int.{ints}
-use Rattle.sg_defs.specs.Apery.{IsApery}
-use Rattle.sg_defs.specs.Membership.{IsMember, IsIntegerMember, IsNumericalSemigroup}
+use Rattle.sg_defs.specs.Membership.{IsIntegerMember, IsNumericalSemigroup}
 use Rattle.sg_apery.specs.declared.limits.TheConstants.{MULTIPLICITY_LIMIT}
 use Rattle.sg_exist.proofs.Decisions.{decided-not, decided-or, decided-lt_z}
 use Rattle.sg_exist.proofs.MemberDecisions.{member-decided}
@@ -11,7 +10,7 @@ use Rattle.sg_exist.proofs.InvariantsExist.{integer_member-decided, apery-exists
 use Rattle.sg_rows.specs.Order.{Plain, fits}
 use Rattle.sg_rows.specs.Pairs.{semigroup_and_integer}
 use Rattle.sg_rows.specs.Lawful.{IsLawful}
-use Rattle.sg_rows.proofs.SomeValue.{SomeValue, HasLawful, given_some}
+use Rattle.sg_rows.proofs.SomeValue.{SomeValue, given_some}
 use Rattle.sg_rows.proofs.SomeListed.{IsLawfulPair, semigroup_and_integer_lawful, naturals_some}
 use Rattle.sg_facts.specs.Modulo.{IsAperyModulo, apery_modulo, apery_list_modulo_of}
 

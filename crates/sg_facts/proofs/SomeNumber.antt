@@ -1,6 +1,6 @@
 -- The rows that tell a number of a semigroup have a value.
-use Rattle.std.proofs.Common.{◌≡◌, ℕ, ℤ, pos, List, length}
-use Rattle.sg_defs.specs.Membership.{IsNumericalSemigroup, IsMultiplicity}
+use Rattle.std.proofs.Common.{◌≡◌, ℕ, pos, List, length}
+use Rattle.sg_defs.specs.Membership.{IsMultiplicity}
 use Rattle.sg_defs.specs.Invariants.{IsFrobenius, IsConductor, IsGenus, IsType}
 use Rattle.sg_exist.proofs.InvariantsExist.{frobenius-exists, multiplicity-exists, conductor-exists, genus-exists, type-exists}
 use Rattle.sg_value.specs.Data.{int}

@@ -2,7 +2,7 @@
 use Rattle.std.specs.Prelude.{◌≡◌, ℕ, List}
 use Rattle.sg_defs.specs.Apery.{IsApery}
 use Rattle.sg_defs.specs.Membership.{IsMultiplicity}
-use Rattle.sg_defs.specs.Listings.{Lists, ListsIntegers}
+use Rattle.sg_defs.specs.Listings.{ListsIntegers}
 use Rattle.sg_defs.specs.Invariants.{IsPseudoFrobenius, IsSpecialGap}
 use Rattle.sg_rows.specs.Order.{Plain, Case, fits}
 use Rattle.sg_rows.specs.Kinds.{given, as_semigroup, answers}

@@ -1,5 +1,5 @@
 -- Concatenations as replies.
-use Rattle.std.proofs.Common.{◌≡◌, ◌<◌, ◌≤◌, ◌-◌, ℕ, List, Option, Some, None, IsSome, Ok, Err, Vec, slice_get, refl, ap, sym, ◌∙◌, subst, arith}
+use Rattle.std.proofs.Common.{◌≡◌, ◌<◌, ◌≤◌, ◌-◌, List, Option, Some, None, IsSome, Ok, Err, Vec, refl, ap, sym, ◌∙◌, subst, arith}
 use Rattle.sg_value.specs.Known.{Known, named}
 use Rattle.std.specs.Global.{Global}
 use Rattle.std.specs.Option.{option_map}

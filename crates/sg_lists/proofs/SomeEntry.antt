@@ -1,8 +1,8 @@
 -- The rows on lists have a value: a list with an entry has a greatest and a least, and each a greatest common divisor.
-use Rattle.std.proofs.Common.{◌≡◌, ◌≢◌, ℕ, zero, suc, ◌+◌, ◌-◌, ◌<◌, ◌≤◌, List, [], ◌∷◌, Option, Some, None, length, get_or, inl, inr, refl, sym, subst, arith}
+use Rattle.std.proofs.Common.{◌≡◌, ℕ, zero, suc, ◌+◌, ◌-◌, ◌<◌, ◌≤◌, List, [], ◌∷◌, Option, Some, None, length, get_or, inl, inr, refl, arith}
 use Rattle.sg_value.specs.Plain.{Things}
-use Rattle.std.specs.Prelude.{◌⊎◌, ◌↔◌, IfSome, ℤ, pos, ⊤, ◌≤ℤ◌, ◌<ℤ◌, All, Contains, unsigned_abs}
-use Rattle.std.specs.Int.{◌∣◌, IsGcd}
+use Rattle.std.specs.Prelude.{IfSome, ℤ, pos, ⊤, ◌≤ℤ◌, All, Contains, unsigned_abs}
+use Rattle.std.specs.Int.{IsGcd}
 use Rattle.std.proofs.lemmas.Bool.{cases_lt, cases_eq}
 use Rattle.std.proofs.lemmas.Int.{ints, by_lt_z}
 use Rattle.std.proofs.lemmas.List.Elements.{All-nil, All-cons}
@@ -16,7 +16,7 @@ use Rattle.sg_lists.specs.Lists.{length_of, sum_of, maximum_of, minimum_of, gcd_
 use Rattle.sg_lists.proofs.Dividing.{lcm_exists}
 use Rattle.sg_lists.proofs.Joining.{known-joined}
 use Rattle.sg_rows.specs.Lawful.{IsLawfulThing, AreLawful}
-use Rattle.sg_lists.specs.Words.{total, IsGreatest, IsLeast, EachOf, IsGcdOfAll, IsLcmOfAll, joined}
+use Rattle.sg_lists.specs.Words.{total, IsGreatest, IsLeast, IsGcdOfAll, IsLcmOfAll, joined}
 
 contains-first : (z : ℤ) (zs : List ℤ) → Contains (z ∷ zs) z
 contains-first z zs = (0, (let l : 0 < length (z ∷ zs) = omega arith in l), refl)

@@ -1,4 +1,4 @@
-use Rattle.std.proofs.Common.{◌≡◌, true, length, sym, ◌∙◌, subst, slice_get, rules}
+use Rattle.std.proofs.Common.{◌≡◌, true, length, sym, subst}
 use Rattle.sg_value.specs.Known.{named}
 use Rattle.std.proofs.lemmas.Bool.{eqb-true}
 use Rattle.sg_rows.specs.Replies.{Replies}

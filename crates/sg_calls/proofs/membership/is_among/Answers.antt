@@ -1,4 +1,4 @@
-use Rattle.std.proofs.Common.{◌≡◌, true, false, slice_get, rules}
+use Rattle.std.proofs.Common.{◌≡◌, true, false, rules}
 use Rattle.sg_value.specs.Known.{named}
 use Rattle.sg_value.specs.Plain.{plain}
 use Rattle.sg_value.proofs.Entries.{AllKnownIn-at}

@@ -1,4 +1,4 @@
-use Rattle.std.proofs.Common.{◌↔◌, drop, slice_get}
+use Rattle.std.proofs.Common.{◌↔◌, drop}
 use Rattle.sg_value.specs.Known.{named}
 use Rattle.sg_value.specs.Plain.{plain, plain_of_all}
 use Rattle.sg_rows.specs.Words.{IsEntry}

@@ -1,11 +1,11 @@
-use Rattle.std.proofs.Common.{◌≡◌, ◌↔◌, Some, Ok, IsTrue, sym, ◌∙◌, subst, slice_get, rules}
+use Rattle.std.proofs.Common.{◌≡◌, ◌↔◌, Some, Ok, IsTrue, sym, ◌∙◌, subst, rules}
 use Rattle.sg_value.specs.Known.{named}
 use Rattle.std.specs.Prelude.{FitsSigned}
 use Rattle.std.specs.Int.{w64}
 use mir.Val.{to_z, of_z}
 use Rattle.std.proofs.lemmas.Int.{to_z-of_z}
 use Rattle.sg_defs.specs.Membership.{IsIntegerMember}
-use Rattle.sg_value.specs.Plain.{plain, contents, thing_at}
+use Rattle.sg_value.specs.Plain.{contents, thing_at}
 use Rattle.sg_rows.specs.Order.{fits}
 use Rattle.sg_rows.specs.Kinds.{given, answers, whether}
 use Rattle.sg_rows.specs.Replies.{Replies}

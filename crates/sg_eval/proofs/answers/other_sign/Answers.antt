@@ -1,4 +1,4 @@
-use Rattle.std.proofs.Common.{slice_get, refl, sym, subst}
+use Rattle.std.proofs.Common.{refl, sym, subst}
 use Rattle.sg_value.specs.Known.{named}
 use Rattle.sg_value.specs.Plain.{plain}
 use Rattle.sg_rows.specs.Order.{IsReply}

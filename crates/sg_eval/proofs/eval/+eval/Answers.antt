@@ -1,4 +1,4 @@
-use Rattle.std.proofs.Common.{◌≡◌, get_or, rules, ◌+◌, ◌∷◌, Ok, Err, Some, None, true, false, length, drop, slice_get, refl, ap, sym, ◌∙◌, subst}
+use Rattle.std.proofs.Common.{◌≡◌, get_or, rules, ◌+◌, ◌∷◌, Ok, Err, Some, None, true, false, length, drop, refl, ap, sym, ◌∙◌, subst}
 use Rattle.sg_value.specs.Known.{named}
 use Rattle.sg_value.specs.Data.{truth}
 use Rattle.sg_value.specs.Plain.{AllKnown, AllKnownIn, plain, plain_of_all}

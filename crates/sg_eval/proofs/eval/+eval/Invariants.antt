@@ -1,4 +1,4 @@
-use Rattle.std.proofs.Common.{◌≡◌, None, ◌∷◌, Option, MatchOption, Result, Vec, Global, length, drop, slice_get}
+use Rattle.std.proofs.Common.{◌≡◌, None, ◌∷◌, Option, MatchOption, Result, Vec, Global, length, drop}
 use Rattle.sg_value.specs.Known.{named}
 use Rattle.std.specs.Prelude.{⊤}
 use Rattle.sg_eval.specs.Given.{plain_where, known_where, plain_if, known_if}

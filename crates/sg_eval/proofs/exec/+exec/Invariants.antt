@@ -1,7 +1,7 @@
 use Rattle.sg_tree.proofs.stmt.Stmt.TheLaws.{the_size}
 use Rattle.sg_value.specs.Known.{named}
 use Rattle.sg_eval.proofs.Sizes.{block_size, arms_size}
-use Rattle.std.proofs.Common.{◌≡◌, ◌≤◌, ◌+◌, ◌*◌, ℕ, List, [], Bool, Option, Result, drop, slice_get}
+use Rattle.std.proofs.Common.{◌≡◌, ◌≤◌, ◌+◌, ◌*◌, ℕ, List, [], Bool, Option, Result, drop}
 use Rattle.sg_value.specs.Plain.{AllKnownIn, plain_of_all}
 use Rattle.sg_tree.specs.TreeView.{block_of, arms_of}
 use Rattle.sg_eval.specs.Machine.{state_of}

@@ -1,4 +1,4 @@
-use Rattle.std.proofs.Common.{Ok, [], slice_get, sym, ◌∙◌, subst}
+use Rattle.std.proofs.Common.{Ok, [], sym, ◌∙◌, subst}
 use Rattle.sg_value.specs.Known.{named}
 use Rattle.sg_value.specs.Plain.{AllKnown, plain}
 use Rattle.sg_store.specs.Interned.{Keeps}

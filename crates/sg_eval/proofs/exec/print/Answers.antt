@@ -1,4 +1,4 @@
-use Rattle.std.proofs.Common.{Ok, Err, None, Some, [], slice_get, ap, ◌∙◌, subst}
+use Rattle.std.proofs.Common.{Ok, Err, None, Some, [], ap, ◌∙◌, subst}
 use Rattle.sg_value.specs.Known.{named}
 use Rattle.sg_rows.specs.declared.fault.Fault.TheVariants.{WrongType}
 use Rattle.sg_value.specs.Plain.{plain_of_all}

@@ -1,4 +1,4 @@
-use Rattle.std.proofs.Common.{◌-◌, Result, slice_get}
+use Rattle.std.proofs.Common.{◌-◌, Result}
 use Rattle.sg_value.specs.Known.{named}
 use Rattle.sg_value.specs.Plain.{AllKnown, plain}
 use Rattle.sg_value.specs.declared.value.Value.{Value}

@@ -1,4 +1,4 @@
-use Rattle.std.proofs.Common.{◌≡◌, ℕ, List, drop}
+use Rattle.std.proofs.Common.{◌≡◌, drop}
 use Rattle.sg_value.specs.Known.{Known}
 use Rattle.std.specs.Map.{lookup}
 use Rattle.std.specs.Str.{bytes_eq}

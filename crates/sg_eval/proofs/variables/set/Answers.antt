@@ -1,4 +1,4 @@
-use Rattle.std.proofs.Common.{slice_get, ap, sym, ◌∙◌, subst}
+use Rattle.std.proofs.Common.{ap, sym, ◌∙◌, subst}
 use Rattle.sg_value.specs.Known.{named}
 use Rattle.sg_eval.specs.State.{values_of, AreKnownIn}
 use Rattle.sg_eval.specs.Vars.{with_value}

@@ -1,4 +1,4 @@
-use Rattle.std.proofs.Common.{◌≡◌, ◌+◌, ◌<◌, ◌≤◌, ◌^◌, ℕ, List, length, get_or, Err, refl, ap, sym, ◌∙◌, subst, arith}
+use Rattle.std.proofs.Common.{◌≡◌, ◌<◌, ◌^◌, ℕ, List, length, get_or, refl, sym, subst, arith}
 use Rattle.std.specs.Prelude.{Contains}
 use Rattle.sg_defs.specs.Listings.{Lists}
 use Rattle.sg_defs.specs.Invariants.{IsFundamentalGap}
@@ -6,10 +6,7 @@ use Rattle.sg_facts.proofs.Counting.{gap-within}
 use Rattle.sg_apery.proofs.GeneratorLemmas.{place-contains}
 use Rattle.sg_rows.specs.Limits.{IsShort, spanned}
 use Rattle.sg_rows.specs.Listed.{natural_list, naturals_with}
-use Rattle.sg_rows.specs.declared.fault.Fault.TheVariants.{TooLarge}
-use Rattle.sg_rows.specs.declared.fault.CallFault.TheVariants.{Script}
 use Rattle.sg_rows.proofs.Replying.{replies_in}
-use Rattle.sg_rows.proofs.Listing.{replies_heavy_naturals}
 use Rattle.sg_rows.proofs.Spans.{spanned_pass}
 use Rattle.sg_facts.proofs.gap_lists.fundamental_gaps_within.Goals as goal
 

@@ -8,7 +8,7 @@ use Rattle.sg_rows.specs.Order.{fits}
 use Rattle.sg_rows.specs.Listed.{natural_list}
 use Rattle.sg_rows.specs.Replies.{Replies}
 use Rattle.sg_rows.proofs.Replying.{replies_in}
-use Rattle.sg_facts.specs.Modulo.{IsAperyModulo, apery_modulo}
+use Rattle.sg_facts.specs.Modulo.{apery_modulo}
 use Rattle.sg_facts.proofs.AperyModulo.{modulo_passes, modulo_found}
 use Rattle.sg_facts.proofs.modulo.apery_modulo.Goals as goal
 

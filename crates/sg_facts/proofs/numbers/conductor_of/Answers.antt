@@ -1,4 +1,4 @@
-use Rattle.std.proofs.Common.{ℕ, pos, Ok, refl, sym, subst}
+use Rattle.std.proofs.Common.{pos, Ok, refl, sym, subst}
 use Rattle.sg_value.specs.Data.{int}
 use Rattle.sg_defs.specs.Invariants.{IsConductor}
 use Rattle.sg_rows.specs.Order.{fits}

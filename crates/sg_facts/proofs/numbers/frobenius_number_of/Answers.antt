@@ -1,4 +1,4 @@
-use Rattle.std.proofs.Common.{Ok, refl, ap, sym, ◌∙◌, subst, slice_get, rules}
+use Rattle.std.proofs.Common.{Ok, refl, ap, sym, ◌∙◌, subst, rules}
 use Rattle.sg_value.specs.Known.{named}
 use Rattle.std.specs.Prelude.{FitsSigned}
 use Rattle.std.specs.Int.{w64}

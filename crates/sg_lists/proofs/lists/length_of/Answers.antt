@@ -1,4 +1,4 @@
-use Rattle.std.proofs.Common.{◌≡◌, ℤ, pos, length, Ok, ap, sym, ◌∙◌, subst, slice_get, rules, arith}
+use Rattle.std.proofs.Common.{◌≡◌, ℤ, pos, length, Ok, ap, sym, ◌∙◌, subst, rules, arith}
 use Rattle.sg_value.specs.Known.{named}
 use Rattle.std.specs.Prelude.{FitsSigned}
 use Rattle.std.specs.Int.{w64}

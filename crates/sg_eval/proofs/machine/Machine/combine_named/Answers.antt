@@ -1,4 +1,4 @@
-use Rattle.std.proofs.Common.{Err, Ok, slice_get, refl, sym, subst}
+use Rattle.std.proofs.Common.{Err, Ok, refl, sym, subst}
 use Rattle.sg_value.specs.Known.{named}
 use Rattle.std.specs.Map.{lookup}
 use Rattle.std.specs.Str.{bytes_eq}

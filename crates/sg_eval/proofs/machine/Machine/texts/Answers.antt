@@ -1,4 +1,4 @@
-use Rattle.std.proofs.Common.{◌+◌, ◌++◌, drop, slice_get, ap, sym, ◌∙◌, append_assoc, append-nil}
+use Rattle.std.proofs.Common.{◌+◌, ◌++◌, drop, ap, sym, ◌∙◌, append_assoc, append-nil}
 use Rattle.sg_value.specs.Known.{named}
 use Rattle.std.proofs.lemmas.List.{drop_all}
 use Rattle.sg_value.specs.Plain.{plain, plain_of_all}

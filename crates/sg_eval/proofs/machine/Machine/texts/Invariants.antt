@@ -1,4 +1,4 @@
-use Rattle.std.proofs.Common.{◌≡◌, ◌++◌, drop, slice_get}
+use Rattle.std.proofs.Common.{◌≡◌, ◌++◌, drop}
 use Rattle.sg_value.specs.Known.{named}
 use Rattle.sg_value.specs.Plain.{plain_of_all}
 use Rattle.sg_eval.specs.Statements.{texts_of}
