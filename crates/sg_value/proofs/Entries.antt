@@ -1,7 +1,8 @@
 -- The entries of a list of values.
-use Rattle.std.proofs.Common.{◌≡◌, ℕ, ◌+◌, ◌<◌, zero, suc, List, [], ◌∷◌, ◌++◌, length, get_or, take, Some, IsSome, refl, ap, subst, sym, arith}
-use Rattle.sg_value.specs.Data.{Kind, Data, int, truth, text, list, fail, semigroup, ideal, Items, none, item, EachThing, EachThingOfAll}
-use Rattle.sg_value.specs.Plain.{Things, Named, contents, AllKnown, AllKnownIn, plain, plain_of_all}
+use Rattle.std.proofs.Common.{◌≡◌, ℕ, ℤ, ◌+◌, ◌<◌, zero, suc, List, [], ◌∷◌, ◌++◌, length, get_or, take, Some, IsSome, refl, ap, subst, sym, arith}
+use Rattle.sg_value.specs.Data.{Kind, semigroups, ideals, Data, int, truth, text, list, fail, semigroup, ideal, Items, none, item, EachThing, EachThingOfAll}
+use Rattle.sg_value.specs.Plain.{Named, IsKnown, contents, AllKnown, AllKnownIn, plain, plain_of_all}
+use Rattle.sg_value.specs.Alike.{every_place}
 use Rattle.sg_value.specs.Text.{entry_text, entry_texts, joined, separator}
 use Rattle.sg_value.proofs.Fronts.{IsNext}
 use Rattle.sg_value.proofs.Pieces.{joined-next}
@@ -27,11 +28,13 @@ mutual
   EachThingOfAll-all P all none = tt
   EachThingOfAll-all P all (item d ds) = (EachThing-all P all d, EachThingOfAll-all P all ds)
 
--- where every place is known, so is every value
-pub AllKnown-all : (things : (k : Kind) → Things k) (v : Value) → AllKnown (λ k i. Some (things k)) v
-AllKnown-all things v = EachThing-all (λ k i. IsSome (Some (things k))) (λ k i. refl) (contents v)
+every_known : (gens : List ℕ) (I : List ℤ) (k : Kind) (i : ℕ) → IsKnown (every_place gens I) k i
+every_known gens I semigroups i = refl
+every_known gens I ideals i = refl
 
-pub ruleset all_known = (AllKnown-all)
+-- where every place is known, so is every value
+pub AllKnown-all : (gens : List ℕ) (I : List ℤ) (v : Value) → AllKnown (every_place gens I) v
+AllKnown-all gens I v = EachThing-all (IsKnown (every_place gens I)) (every_known gens I) (contents v)
 
 -- there is a text for each entry
 pub length-entry_texts : (names : Named) (vs : List Value) → length (entry_texts (plain_of_all names vs)) ≡ length vs

@@ -1,6 +1,6 @@
 //! Each call once, with ample memory; the texts are those of the language's description.
 
-ghost use Rattle.std.specs.Prelude.{Some};
+ghost use Rattle.sg_value.specs.Alike.{every_place};
 
 use crate::{IdealId, Names, SemId, Value, depth, equal, print_into, try_clone, weight};
 use sg_nat::{Bytes, Ints, Nats};
@@ -30,7 +30,6 @@ impl Names for OneSemigroup {
     }
 }
 
-#[tactic(auto, using(crate::proofs::Entries::all_known))]
 fn printed(alloc: Global, v: &Value) -> Result<Bytes, AllocError> {
     let names = OneSemigroup {
         generators: Nats::from_slice(alloc, &[3, 5])?,
