@@ -1,0 +1,5 @@
+pub mod Serving
+pub mod Arguments
+pub mod Again
+pub mod Reaching
+pub mod Replying
