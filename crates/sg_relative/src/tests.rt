@@ -6,11 +6,11 @@ ghost use Rattle.sg_value.specs.Plain.{AllKnown};
 ghost use Rattle.sg_store.specs.Interned.{Keeps};
 
 use crate::{
-    ambient_of, canonical_of, ideal_generators_of, ideal_intersection_of, ideal_member_of, less_of,
-    maximal_of, plus_of, times_of,
+    ambient_of, canonical_of, ideal_generators_of, ideal_intersection_of, ideal_member_of,
+    ideal_of_list, less_of, maximal_of, plus_of, times_of,
 };
 use sg_apery::Table;
-use sg_rows::{CallFault, Fault, entries_of};
+use sg_rows::{CallFault, Fault};
 use sg_store::Store;
 use sg_value::Value;
 use std::alloc::{AllocError, Global};
@@ -40,13 +40,13 @@ fn ideal(alloc: Global, entries: &[i64]) -> Result<(Store, Value), Fail>
     ensures { IfOk result (λ found. AllKnown (named found.0) found.1) }
 {
     let (mut store, s) = semigroup(alloc, &[3, 7, 8])?;
-    let made = plus_of(alloc, &mut store, &list_of(alloc, entries)?, &s)?;
+    let made = ideal_of_list(alloc, &mut store, &list_of(alloc, entries)?, &s)?;
     Ok((store, made))
 }
 
 /// Whether the value is the list of these integers.
-fn is_list(found: &Value, wanted: &[i64]) -> bool {
-    let Some(entries) = entries_of(found) else {
+fn is_list(found: Value, wanted: &[i64]) -> bool {
+    let Value::List(entries) = found else {
         return false;
     };
     if entries.len() != wanted.len() {
@@ -64,7 +64,7 @@ fn is_list(found: &Value, wanted: &[i64]) -> bool {
 fn has(alloc: Global, store: &Store, found: &Value, wanted: &[i64]) -> Result<bool, CallFault>
     requires { AllKnown (named store.now) found.now }
 {
-    Ok(is_list(&ideal_generators_of(alloc, store, found)?, wanted))
+    Ok(is_list(ideal_generators_of(alloc, store, found)?, wanted))
 }
 
 #[test]
@@ -143,10 +143,13 @@ fn refusals(rt: HostRuntime) -> Result<(), Fail> {
     let reply = times_of(alloc, &mut store, &Value::Int(0), &i);
     assert!(rt; is_refused(reply, Fault::BadArgument));
     let (mut store, t) = semigroup(alloc, &[3, 7, 8])?;
-    let reply = plus_of(alloc, &mut store, &list_of(alloc, &[0, 4_294_967_296])?, &t);
+    let reply = ideal_of_list(alloc, &mut store, &list_of(alloc, &[4_294_967_296])?, &t);
     assert!(rt; is_refused(reply, Fault::TooLarge));
     let (mut store, t) = semigroup(alloc, &[3, 7, 8])?;
-    let reply = plus_of(alloc, &mut store, &t, &list_of(alloc, &[0])?);
+    let reply = plus_of(alloc, &mut store, &Value::List(Vec::new(alloc)), &t);
+    assert!(rt; is_refused(reply, Fault::BadArgument));
+    let (mut store, t) = semigroup(alloc, &[3, 7, 8])?;
+    let reply = plus_of(alloc, &mut store, &t, &Value::Int(0));
     assert!(rt; is_refused(reply, Fault::WrongType));
     Ok(())
 }
