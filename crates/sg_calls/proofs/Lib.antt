@@ -5,3 +5,4 @@ pub mod SomeReply
 pub mod OneFact
 pub mod SomeFact
 pub mod Kept
+pub mod SeveralKinds

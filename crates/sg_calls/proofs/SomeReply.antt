@@ -18,8 +18,8 @@ use Rattle.sg_rows.proofs.SomeListed.{two_some, three_some}
 use Rattle.sg_lists.specs.Lists.{gcd_of, lcm_of}
 use Rattle.sg_lists.proofs.SomeEntry.{gcd_some, lcm_some, concatenation_some}
 use Rattle.sg_makers.specs.Makers.{semigroup_of}
-use Rattle.sg_makers.specs.Derived.{intersection_of, quotient_of}
-use Rattle.sg_makers.proofs.SomeSemigroup.{semigroup_some, intersection_some, quotient_some, modular_some, proportional_some}
+use Rattle.sg_makers.specs.Derived.{quotient_of}
+use Rattle.sg_makers.proofs.SomeSemigroup.{semigroup_some, quotient_some, modular_some, proportional_some}
 use Rattle.sg_makers.specs.Modular.{modular_of, proportional_of}
 use Rattle.sg_facts.specs.Lists.{apery_list_of}
 use Rattle.sg_facts.specs.Modulo.{apery_list_modulo_of}
@@ -28,16 +28,22 @@ use Rattle.sg_facts.proofs.SomeModulo.{apery_list_modulo_some}
 use Rattle.sg_calls.specs.Shapes.{one_or_two}
 use Rattle.sg_calls.specs.SemigroupFacts as semigroup
 use Rattle.sg_calls.specs.ListFacts as facts
+use Rattle.sg_calls.specs.IdealFacts as ideal
+use Rattle.sg_calls.specs.IdealFacts.{both_of}
+use Rattle.sg_rows.proofs.Alternating.{or_else_some}
+use Rattle.sg_relative.specs.Generated.{ideal_of_list}
+use Rattle.sg_relative.specs.Operators.{plus_of, less_of, times_of}
+use Rattle.sg_relative.proofs.SomeIdeal.{ideal_member_some, ideal_of_list_some, plus_some, less_some, times_some}
 use Rattle.sg_calls.specs.ShapeFacts as shape
 use Rattle.sg_calls.specs.ListMakers as maker
-use Rattle.sg_calls.proofs.SomeFact.{semigroup_fact_some, shape_fact_some, list_fact_some, list_maker_some}
+use Rattle.sg_calls.proofs.SomeFact.{ideal_fact_some, both_some, semigroup_fact_some, shape_fact_some, list_fact_some, list_maker_some}
 use Rattle.sg_calls.specs.Words.{IsRemainder}
 use Rattle.sg_calls.specs.Rows.{row}
 use Rattle.sg_calls.specs.Operations.{operation, membership, calculation, of_integers, negation}
 use Rattle.sg_calls.specs.Commands.{checked, command_named}
 use Rattle.sg_calls.specs.Answers.{Answer, case_of, reply_unless}
 use Rattle.sg_calls.specs.declared.command.Command.{Command}
-use Rattle.sg_calls.specs.declared.command.Command.TheVariants.{OfSemigroup, OfShape, OfList, FromList, Concatenation, Gcd, Intersection, Lcm, NumericalSemigroup, QuotientOfNumericalSemigroup, AperyList, ModularNumericalSemigroup, ProportionallyModularNumericalSemigroup}
+use Rattle.sg_calls.specs.declared.command.Command.TheVariants.{OfIdeal, IdealOfNumericalSemigroup, OfSemigroup, OfShape, OfList, FromList, Concatenation, Gcd, Intersection, Lcm, NumericalSemigroup, QuotientOfNumericalSemigroup, AperyList, ModularNumericalSemigroup, ProportionallyModularNumericalSemigroup}
 use Rattle.sg_calls.specs.declared.operator.Operator.{Operator}
 use Rattle.sg_calls.specs.declared.operator.Operator.TheVariants.{Plus, Less, Times, Mod, Eq, Ne, Lt, Le, Gt, Ge, Member}
 use Rattle.sg_calls.proofs.Remainders.{remainder_is}
@@ -61,27 +67,27 @@ of_integers_some : (op : Operator) (a b : Plain) → SomeValue (of_integers op a
 of_integers_some op a b = given_some (λ x. ⊤) (as_integer a) (λ x. given (as_integer b) (λ y. calculation op x y)) (any_some (as_integer a))
     (λ x l. given_some (λ y. ⊤) (as_integer b) (λ y. calculation op x y) (any_some (as_integer b)) (λ y m. calculation_some op x y))
 
-membership_some : (a : Plain) (o : Option (Items Things)) (s : Option (List ℕ)) → SomeValue (membership a o s)
-membership_some a (Some ds) s = answers_some _ (whether_some (IsEntry a ds) (entry-decided a ds))
-membership_some a None (Some G) = given_some (λ x. ⊤) (as_integer a) (λ x. fits (answers (whether (IsIntegerMember G x)))) (any_some (as_integer a))
-    (λ x l. answers_some _ (whether_some (IsIntegerMember G x) (integer_member-decided G x)))
-membership_some a None None = tt
+membership_some : (a b : Plain) (o : Option (Items Things)) (s : Option (List ℕ)) → IsLawful b → SomeValue (membership a b o s)
+membership_some a b (Some ds) s l = answers_some _ (whether_some (IsEntry a ds) (entry-decided a ds))
+membership_some a b None (Some G) l = given_some (λ x. ⊤) (as_integer a) (λ x. fits (answers (whether (IsIntegerMember G x)))) (any_some (as_integer a))
+    (λ x m. answers_some _ (whether_some (IsIntegerMember G x) (integer_member-decided G x)))
+membership_some a b None None l = ideal_member_some a b l
 
-operation_some : (op : Operator) (a b : Plain) → SomeValue (operation op a b)
-operation_some Eq a b = answers_some _ (whether_some (a ≡ b) (data-decided a b))
-operation_some Ne a b = answers_some _ (whether_some (a ≡ b → ⊥) (decided-not (a ≡ b) (data-decided a b)))
-operation_some Member a b = membership_some a (as_list b) (as_semigroup b)
-operation_some Plus a b = of_integers_some Plus a b
-operation_some Less a b = of_integers_some Less a b
-operation_some Times a b = of_integers_some Times a b
-operation_some Mod a b = of_integers_some Mod a b
-operation_some Lt a b = of_integers_some Lt a b
-operation_some Le a b = of_integers_some Le a b
-operation_some Gt a b = of_integers_some Gt a b
-operation_some Ge a b = of_integers_some Ge a b
+operation_some : (op : Operator) (a b : Plain) → IsLawful a → IsLawful b → SomeValue (operation op a b)
+operation_some Eq a b l m = answers_some _ (whether_some (a ≡ b) (data-decided a b))
+operation_some Ne a b l m = answers_some _ (whether_some (a ≡ b → ⊥) (decided-not (a ≡ b) (data-decided a b)))
+operation_some Member a b l m = membership_some a b (as_list b) (as_semigroup b) m
+operation_some Plus a b l m = or_else_some (of_integers Plus a b) (plus_of a b) (of_integers_some Plus a b) (plus_some a b l m)
+operation_some Less a b l m = or_else_some (of_integers Less a b) (less_of a b) (of_integers_some Less a b) (less_some a b l m)
+operation_some Times a b l m = or_else_some (of_integers Times a b) (times_of a b) (of_integers_some Times a b) (times_some a b l m)
+operation_some Mod a b l m = of_integers_some Mod a b
+operation_some Lt a b l m = of_integers_some Lt a b
+operation_some Le a b l m = of_integers_some Le a b
+operation_some Gt a b l m = of_integers_some Gt a b
+operation_some Ge a b l m = of_integers_some Ge a b
 
-pub operators_some : (op : Operator) (a b : Plain) → SomeReply (IsReply (operation op a b))
-operators_some op a b = reply_some (operation op a b) (operation_some op a b)
+pub operators_some : (op : Operator) (a b : Plain) → IsLawful a → IsLawful b → SomeReply (IsReply (operation op a b))
+operators_some op a b l m = reply_some (operation op a b) (operation_some op a b l m)
 
 pub sign_some : (a : Plain) → SomeReply (IsReply (negation a))
 sign_some a = reply_some (negation a)
@@ -99,11 +105,13 @@ one_or_two_some (item a (item b (item c ds))) f g l h k = tt
 row_some : (c : Command) (args : Items Things) → AreLawful args → SomeValue (row c args)
 row_some (OfSemigroup f) args h = given_some IsLawful (sole args) (semigroup.fact_of f) (sole_lawful args h) (semigroup_fact_some f)
 row_some (OfShape f) args h = given_some IsLawful (sole args) (shape.fact_of f) (sole_lawful args h) (shape_fact_some f)
+row_some (OfIdeal f) args h = given_some IsLawful (sole args) (ideal.fact_of f) (sole_lawful args h) (ideal_fact_some f)
 row_some (OfList f) args h = given_some IsLawful (sole args) (facts.fact_of f) (sole_lawful args h) (λ a l. list_fact_some f a)
 row_some (FromList m) args h = given_some IsLawful (sole args) (maker.made_by m) (sole_lawful args h) (λ a l. list_maker_some m a)
 row_some Concatenation args h = concatenation_some args h
 row_some Gcd args h = given_some (λ zs. ⊤) (spread args) gcd_of (any_some (spread args)) (λ zs l. gcd_some zs)
-row_some Intersection args h = two_some args intersection_of h intersection_some
+row_some IdealOfNumericalSemigroup args h = two_some args ideal_of_list h (λ a b l m. ideal_of_list_some a b m)
+row_some Intersection args h = two_some args both_of h both_some
 row_some Lcm args h = given_some (λ zs. ⊤) (spread args) lcm_of (any_some (spread args)) (λ zs l. lcm_some zs)
 row_some NumericalSemigroup args h = given_some (λ zs. ⊤) (spread args) semigroup_of (any_some (spread args)) (λ zs l. semigroup_some zs)
 row_some QuotientOfNumericalSemigroup args h = two_some args quotient_of h quotient_some

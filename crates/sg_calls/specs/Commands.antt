@@ -6,8 +6,9 @@ use Rattle.sg_rows.specs.declared.fault.Fault.{Fault}
 use Rattle.sg_rows.specs.declared.fault.Fault.TheVariants.{UnknownName, WrongCount}
 use Rattle.sg_calls.specs.declared.command.Command.{Command}
 use Rattle.sg_calls.specs.declared.command.Named.{Named}
-use Rattle.sg_calls.specs.declared.command.Command.TheVariants.{OfSemigroup, OfList, FromList, Concatenation, Gcd, Intersection, Lcm, NumericalSemigroup, QuotientOfNumericalSemigroup, AperyList, ModularNumericalSemigroup, ProportionallyModularNumericalSemigroup, OfShape}
+use Rattle.sg_calls.specs.declared.command.Command.TheVariants.{OfIdeal, IdealOfNumericalSemigroup, OfSemigroup, OfList, FromList, Concatenation, Gcd, Intersection, Lcm, NumericalSemigroup, QuotientOfNumericalSemigroup, AperyList, ModularNumericalSemigroup, ProportionallyModularNumericalSemigroup, OfShape}
 use Rattle.sg_calls.specs.declared.semigroup_facts.SemigroupFact.TheVariants as fact
+use Rattle.sg_calls.specs.declared.ideal_facts.IdealFact.TheVariants as ideal_fact
 use Rattle.sg_calls.specs.declared.shape_facts.ShapeFact.TheVariants as shape
 use Rattle.sg_calls.specs.declared.list_facts.ListFact.TheVariants as list_fact
 use Rattle.sg_calls.specs.declared.list_makers.ListMaker.TheVariants as by_list
@@ -19,8 +20,10 @@ entry_of entry = (entry.0.now, entry.1)
 -- each name with its command
 abbrev pub names : List (List ℕ × Command)
 names =
-    (codes "AperyList", AperyList)
+    (codes "AmbientNumericalSemigroupOfIdeal", OfIdeal ideal_fact.AmbientNumericalSemigroupOfIdeal)
+    ∷ (codes "AperyList", AperyList)
     ∷ (codes "ArfClosure", OfShape shape.ArfClosure)
+    ∷ (codes "CanonicalIdeal", OfIdeal ideal_fact.CanonicalIdeal)
     ∷ (codes "Concatenation", Concatenation)
     ∷ (codes "Conductor", OfSemigroup fact.Conductor)
     ∷ (codes "DecomposeIntoIrreducibles", OfShape shape.DecomposeIntoIrreducibles)
@@ -30,6 +33,7 @@ names =
     ∷ (codes "Gaps", OfSemigroup fact.Gaps)
     ∷ (codes "Gcd", Gcd)
     ∷ (codes "Genus", OfSemigroup fact.Genus)
+    ∷ (codes "IdealOfNumericalSemigroup", IdealOfNumericalSemigroup)
     ∷ (codes "Intersection", Intersection)
     ∷ (codes "IsArf", OfShape shape.IsArf)
     ∷ (codes "IsIrreducible", OfShape shape.IsIrreducible)
@@ -40,8 +44,9 @@ names =
     ∷ (codes "Lcm", Lcm)
     ∷ (codes "Length", OfList list_fact.Length)
     ∷ (codes "MEDClosure", OfShape shape.MEDClosure)
+    ∷ (codes "MaximalIdeal", OfIdeal ideal_fact.MaximalIdeal)
     ∷ (codes "Maximum", OfList list_fact.Maximum)
-    ∷ (codes "MinimalGenerators", OfSemigroup fact.MinimalGenerators)
+    ∷ (codes "MinimalGenerators", OfIdeal ideal_fact.MinimalGenerators)
     ∷ (codes "Minimum", OfList list_fact.Minimum)
     ∷ (codes "ModularNumericalSemigroup", ModularNumericalSemigroup)
     ∷ (codes "Multiplicity", OfSemigroup fact.Multiplicity)
@@ -67,12 +72,14 @@ command_named name = lookup (bytes_eq name) names
 -- whether a command takes so many arguments
 abbrev pub takes : Command → ℕ → Bool
 takes (FromList m) n = nat_eq n 1
+takes (OfIdeal f) n = nat_eq n 1
 takes (OfList f) n = nat_eq n 1
 takes (OfSemigroup f) n = nat_eq n 1
 takes (OfShape f) n = nat_eq n 1
 takes AperyList n = nat_eq n 1 || nat_eq n 2
 takes Concatenation n = nat_le 1 n
 takes Gcd n = nat_le 1 n
+takes IdealOfNumericalSemigroup n = nat_eq n 2
 takes Intersection n = nat_eq n 2
 takes Lcm n = nat_le 1 n
 takes ModularNumericalSemigroup n = nat_eq n 2

@@ -1,6 +1,7 @@
 pub mod ShapeFacts
 pub mod Shapes
 pub mod SemigroupFacts
+pub mod IdealFacts
 pub mod ListFacts
 pub mod ListMakers
 pub mod Commands

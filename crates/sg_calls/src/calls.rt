@@ -11,11 +11,13 @@ ghost use Rattle.sg_calls.specs.Answers.{case_of};
 
 use crate::apery::apery;
 use crate::command::{Command, command_named};
+use crate::ideal_facts::{self, in_both};
 use crate::{list_facts, list_makers, semigroup_facts, shape_facts};
 use sg_lists::{concatenation_of, gcd_of, lcm_of};
 use sg_makers::{
-    intersection_of, modular_of, numerical_semigroup_of, proportional_of, quotient_of,
+    modular_of, numerical_semigroup_of, proportional_of, quotient_of,
 };
+use sg_relative::ideal_of_list;
 use sg_rows::{CallFault, Fault};
 use sg_store::Store;
 use sg_value::Value;
@@ -36,12 +38,14 @@ fn perform(
     match command {
         Command::OfSemigroup(fact) => semigroup_facts::tell(alloc, store, fact, &args[0]),
         Command::OfShape(fact) => shape_facts::tell(alloc, store, fact, &args[0]),
+        Command::OfIdeal(fact) => ideal_facts::tell(alloc, store, fact, &args[0]),
         Command::OfList(fact) => list_facts::tell(alloc, fact, &args[0]),
         Command::FromList(maker) => list_makers::make(alloc, store, maker, &args[0]),
         Command::AperyList => apery(alloc, store, args),
         Command::Concatenation => concatenation_of(alloc, args),
         Command::Gcd => gcd_of(alloc, args),
-        Command::Intersection => intersection_of(alloc, store, &args[0], &args[1]),
+        Command::IdealOfNumericalSemigroup => ideal_of_list(alloc, store, &args[0], &args[1]),
+        Command::Intersection => in_both(alloc, store, &args[0], &args[1]),
         Command::Lcm => lcm_of(alloc, args),
         Command::ModularNumericalSemigroup => modular_of(alloc, store, &args[0], &args[1]),
         Command::NumericalSemigroup => numerical_semigroup_of(alloc, store, args),

@@ -5,6 +5,7 @@ ghost use Rattle.std.specs.Map.{lookup};
 ghost use Rattle.std.specs.Str.{bytes_eq};
 ghost use Rattle.sg_calls.specs.Commands.{command_named, takes, checked, entry_of};
 
+use crate::ideal_facts::IdealFact;
 use crate::list_facts::ListFact;
 use crate::list_makers::ListMaker;
 use crate::semigroup_facts::SemigroupFact;
@@ -18,6 +19,8 @@ pub enum Command {
     OfSemigroup(SemigroupFact),
     /// A fact of the shape of one semigroup, or semigroups made of it.
     OfShape(ShapeFact),
+    /// A command that takes an ideal or makes one.
+    OfIdeal(IdealFact),
     /// A fact of one list.
     OfList(ListFact),
     /// A semigroup from one list of integers.
@@ -25,6 +28,7 @@ pub enum Command {
     AperyList,
     Concatenation,
     Gcd,
+    IdealOfNumericalSemigroup,
     Intersection,
     Lcm,
     ModularNumericalSemigroup,
@@ -37,9 +41,17 @@ pub enum Command {
 struct Named(&'static [u8], Command);
 
 /// The names of all commands.
-static NAMES: [Named; 39] = [
+static NAMES: [Named; 43] = [
+    Named(
+        b"AmbientNumericalSemigroupOfIdeal",
+        Command::OfIdeal(IdealFact::AmbientNumericalSemigroupOfIdeal),
+    ),
     Named(b"AperyList", Command::AperyList),
     Named(b"ArfClosure", Command::OfShape(ShapeFact::ArfClosure)),
+    Named(
+        b"CanonicalIdeal",
+        Command::OfIdeal(IdealFact::CanonicalIdeal),
+    ),
     Named(b"Concatenation", Command::Concatenation),
     Named(b"Conductor", Command::OfSemigroup(SemigroupFact::Conductor)),
     Named(
@@ -61,6 +73,10 @@ static NAMES: [Named; 39] = [
     Named(b"Gaps", Command::OfSemigroup(SemigroupFact::Gaps)),
     Named(b"Gcd", Command::Gcd),
     Named(b"Genus", Command::OfSemigroup(SemigroupFact::Genus)),
+    Named(
+        b"IdealOfNumericalSemigroup",
+        Command::IdealOfNumericalSemigroup,
+    ),
     Named(b"Intersection", Command::Intersection),
     Named(b"IsArf", Command::OfShape(ShapeFact::IsArf)),
     Named(b"IsIrreducible", Command::OfShape(ShapeFact::IsIrreducible)),
@@ -74,10 +90,11 @@ static NAMES: [Named; 39] = [
     Named(b"Lcm", Command::Lcm),
     Named(b"Length", Command::OfList(ListFact::Length)),
     Named(b"MEDClosure", Command::OfShape(ShapeFact::MEDClosure)),
+    Named(b"MaximalIdeal", Command::OfIdeal(IdealFact::MaximalIdeal)),
     Named(b"Maximum", Command::OfList(ListFact::Maximum)),
     Named(
         b"MinimalGenerators",
-        Command::OfSemigroup(SemigroupFact::MinimalGenerators),
+        Command::OfIdeal(IdealFact::MinimalGenerators),
     ),
     Named(b"Minimum", Command::OfList(ListFact::Minimum)),
     Named(
@@ -157,10 +174,14 @@ fn takes(command: Command, count: usize) -> bool
     ensures { result ≡ takes command count }
 {
     match command {
-        Command::OfSemigroup(_) | Command::OfShape(_) | Command::OfList(_) | Command::FromList(_) =>
-            count == 1,
+        Command::OfSemigroup(_)
+        | Command::OfShape(_)
+        | Command::OfIdeal(_)
+        | Command::OfList(_)
+        | Command::FromList(_) => count == 1,
         Command::AperyList => count == 1 || count == 2,
-        Command::Intersection
+        Command::IdealOfNumericalSemigroup
+        | Command::Intersection
         | Command::ModularNumericalSemigroup
         | Command::QuotientOfNumericalSemigroup => count == 2,
         Command::ProportionallyModularNumericalSemigroup => count == 3,

@@ -7,8 +7,8 @@ pub fn one_answer()
     ensures { OneAnswer }
 {}
 
-/// A command has an answer over arguments whose semigroups are minimal lists within the limits, and an operator and the
-/// minus sign over all operands; the semigroups in it are such too.
+/// A command has an answer over arguments whose semigroups and ideals are minimal lists within the limits, an operator
+/// over such operands, and the minus sign over all; the semigroups and ideals in it are such too.
 pub fn some_answer()
     ensures { SomeAnswer }
 {}

@@ -1,7 +1,7 @@
 //! The rows of commands and operators.
 //!
 //! `specs/Commands` has the table of names, `specs/Rows` which row answers which command, `specs/Operations` the rows
-//! of the operators. The rows themselves stand in `sg_lists`, `sg_makers`, `sg_facts` and `sg_shapes`, what they are made of and the
+//! of the operators. The rows themselves stand in `sg_lists`, `sg_makers`, `sg_facts`, `sg_shapes` and `sg_relative`, what they are made of and the
 //! order of refusals in `sg_rows`.
 //!
 //! The layer above uses: `check_call` refuses an unknown name or a wrong number of arguments; `answer` and `combine`
@@ -11,6 +11,7 @@
 mod apery;
 mod calls;
 mod command;
+mod ideal_facts;
 pub mod laws;
 mod list_facts;
 mod list_makers;

@@ -8,6 +8,7 @@ ghost use Rattle.sg_rows.specs.Words.{IsEntry};
 ghost use Rattle.sg_calls.specs.Operations.{operation, membership_of};
 
 use crate::operator::Operator;
+use sg_relative::ideal_member_of;
 use sg_rows::{CallFault, Fault, entries_of, integer_of, semigroup_of, truth};
 use sg_store::Store;
 use sg_value::{SemId, Value};
@@ -40,7 +41,7 @@ fn is_member(alloc: Global, store: &mut Store, v: &Value, id: SemId) -> Result<V
     Ok(truth(table.contains(x)))
 }
 
-/// Whether a list has the value as an entry, or a semigroup the integer as a member.
+/// Whether a list has the value as an entry, or a semigroup or an ideal the integer as a member.
 pub fn member(
     alloc: Global,
     store: &mut Store,
@@ -55,8 +56,8 @@ pub fn member(
     if let Some(entries) = entries_of(whole) {
         return Ok(truth(is_among(store, v, entries)));
     }
-    let Some(id) = semigroup_of(whole) else {
-        return Err(CallFault::Script(Fault::WrongType));
-    };
-    is_member(alloc, store, v, id)
+    match semigroup_of(whole) {
+        Some(id) => is_member(alloc, store, v, id),
+        None => ideal_member_of(alloc, store, v, whole),
+    }
 }

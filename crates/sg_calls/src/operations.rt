@@ -1,18 +1,19 @@
 //! Operators on their operands.
 
-ghost use Rattle.std.specs.Prelude.{◌≡◌, ◌-ℤ◌, pos, ℕ, ℤ, List, SomeIff, FitsSigned, slice_get};
+ghost use Rattle.std.specs.Prelude.{◌≡◌, ◌-ℤ◌, ◌↔◌, pos, ℕ, ℤ, List, SomeIff, FitsSigned, IsTrue, IsSome, slice_get};
 ghost use Rattle.sg_value.specs.Known.{Known, named};
 ghost use Rattle.std.specs.Int.{w64};
 ghost use Rattle.sg_value.specs.Data.{int};
-ghost use Rattle.sg_value.specs.Plain.{plain, AllKnown};
+ghost use Rattle.sg_value.specs.Plain.{plain, contents, AllKnown};
 ghost use Rattle.sg_store.specs.Interned.{Keeps};
 ghost use Rattle.sg_rows.specs.Order.{fits};
-ghost use Rattle.sg_rows.specs.Kinds.{answers};
+ghost use Rattle.sg_rows.specs.Kinds.{answers, as_integer};
 ghost use Rattle.sg_calls.specs.Operations.{calculation, operation, negation, of_integers};
 ghost use Rattle.sg_rows.specs.Replies.{Replies};
 
 use crate::membership::member;
 use crate::operator::Operator;
+use sg_relative::{less_of, plus_of, times_of};
 use sg_rows::{CallFault, Fault, integer, integer_of, truth};
 use sg_store::Store;
 use sg_value::Value;
@@ -60,6 +61,52 @@ fn on_integers(op: Operator, a: &Value, b: &Value) -> Result<Value, CallFault>
     calculate(op, x, y)
 }
 
+/// Whether both operands are integers.
+fn are_integers(a: &Value, b: &Value) -> bool
+    ensures { IsTrue result ↔ (IsSome (as_integer (contents a.now)) × IsSome (as_integer (contents b.now))) }
+{
+    integer_of(a).is_some() && integer_of(b).is_some()
+}
+
+/// The operator `+`, of two integers or else where an ideal is an operand or is made.
+fn plus(alloc: Global, store: &mut Store, a: &Value, b: &Value) -> Result<Value, CallFault>
+    requires left { AllKnown (named store.old) a.now }
+    requires right { AllKnown (named store.old) b.now }
+    ensures reply { Replies result store.new (operation Operator.Plus (plain (named store.old) a.now) (plain (named store.old) b.now)) }
+    ensures keeps { Keeps store.old store.new }
+{
+    if are_integers(a, b) {
+        return on_integers(Operator::Plus, a, b);
+    }
+    plus_of(alloc, store, a, b)
+}
+
+/// The operator `-`, of two integers or else of two ideals.
+fn less(alloc: Global, store: &mut Store, a: &Value, b: &Value) -> Result<Value, CallFault>
+    requires left { AllKnown (named store.old) a.now }
+    requires right { AllKnown (named store.old) b.now }
+    ensures reply { Replies result store.new (operation Operator.Less (plain (named store.old) a.now) (plain (named store.old) b.now)) }
+    ensures keeps { Keeps store.old store.new }
+{
+    if are_integers(a, b) {
+        return on_integers(Operator::Less, a, b);
+    }
+    less_of(alloc, store, a, b)
+}
+
+/// The operator `*`, of two integers or else of an integer and an ideal.
+fn times(alloc: Global, store: &mut Store, a: &Value, b: &Value) -> Result<Value, CallFault>
+    requires left { AllKnown (named store.old) a.now }
+    requires right { AllKnown (named store.old) b.now }
+    ensures reply { Replies result store.new (operation Operator.Times (plain (named store.old) a.now) (plain (named store.old) b.now)) }
+    ensures keeps { Keeps store.old store.new }
+{
+    if are_integers(a, b) {
+        return on_integers(Operator::Times, a, b);
+    }
+    times_of(alloc, store, a, b)
+}
+
 /// The integer with the other sign.
 pub fn negate(a: &Value) -> Result<Value, CallFault>
     ensures { (store : Known) → Replies result store (negation (plain (named store) a.now)) }
@@ -87,10 +134,10 @@ pub fn combine(
         Operator::Eq => Ok(truth(store.equal(a, b))),
         Operator::Ne => Ok(truth(!store.equal(a, b))),
         Operator::Member => member(alloc, store, a, b),
-        Operator::Plus
-        | Operator::Less
-        | Operator::Times
-        | Operator::Mod
+        Operator::Plus => plus(alloc, store, a, b),
+        Operator::Less => less(alloc, store, a, b),
+        Operator::Times => times(alloc, store, a, b),
+        Operator::Mod
         | Operator::Lt
         | Operator::Le
         | Operator::Gt

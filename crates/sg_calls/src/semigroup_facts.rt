@@ -9,7 +9,7 @@ ghost use Rattle.sg_calls.specs.SemigroupFacts.{fact_of};
 
 use sg_facts::{
     conductor_of, embedding_dimension_of, frobenius_number_of, fundamental_gaps_of, gaps_of,
-    genus_of, minimal_generators_of, multiplicity_of, pseudo_frobenius_of, small_elements_of,
+    genus_of, multiplicity_of, pseudo_frobenius_of, small_elements_of,
     special_gaps_of, type_of,
 };
 use sg_rows::CallFault;
@@ -26,7 +26,6 @@ pub enum SemigroupFact {
     FundamentalGaps,
     Gaps,
     Genus,
-    MinimalGenerators,
     Multiplicity,
     PseudoFrobenius,
     SmallElements,
@@ -52,7 +51,6 @@ pub fn tell(
         SemigroupFact::FundamentalGaps => fundamental_gaps_of(alloc, store, s),
         SemigroupFact::Gaps => gaps_of(alloc, store, s),
         SemigroupFact::Genus => genus_of(alloc, store, s),
-        SemigroupFact::MinimalGenerators => minimal_generators_of(alloc, store, s),
         SemigroupFact::Multiplicity => multiplicity_of(store, s),
         SemigroupFact::PseudoFrobenius => pseudo_frobenius_of(alloc, store, s),
         SemigroupFact::SmallElements => small_elements_of(alloc, store, s),
