@@ -21,3 +21,4 @@ pub mod ListingLemmas
 pub mod ModularLemmas
 pub mod FundamentalLemmas
 pub mod HalfLemmas
+pub mod SumLemmas

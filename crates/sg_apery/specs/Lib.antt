@@ -9,4 +9,5 @@ pub mod Laws
 pub mod Minimal
 pub mod Modular
 pub mod Relaxation
+pub mod Sums
 pub mod Table

@@ -39,7 +39,7 @@ fn all_least_from(alloc: Global, start: u64, modulus: u64) -> Result<Vec<u64>, A
 }
 
 /// Lowers the entry of the class of each listed number to that number, where it is greater.
-fn lower_all(table: &mut [u64], list: &[u64])
+pub fn lower_all(table: &mut [u64], list: &[u64])
     requires { 0 < length table.old }
     ensures { IsLoweredBy list.now table.old table.new (length list.now) }
 {

@@ -1,12 +1,14 @@
 //! The minimal generators among given ones.
 
-ghost use Rattle.std.specs.Prelude.{◌≡◌, ◌+◌, ◌<◌, ◌≤◌, ◌-◌, ℕ, length, slice_index, Contains, EachIndex, IfOk, IsTrue, ◌↔◌};
+ghost use Rattle.std.specs.Prelude.{◌≡◌, ◌+◌, ◌<◌, ◌≤◌, ◌-◌, ℕ, length, slice_index, Contains, EachIndex, IfOk, IfSome, IsNone, IsTrue, ◌↔◌};
 ghost use Rattle.std.specs.List.Sorted.{IsStrictlyIncreasing};
 ghost use Rattle.sg_defs.specs.Membership.{IsMember, Generates};
 ghost use Rattle.sg_apery.specs.Classes.{IsAboveEntry};
-ghost use Rattle.sg_apery.specs.Minimal.{IsPartOf, IsSpare};
+ghost use Rattle.sg_apery.specs.Minimal.{IsPartOf, IsSpare, IsSummandAt};
+ghost use Rattle.sg_apery.specs.Sums.{AreSumBounds};
 ghost use Rattle.sg_apery.specs.Table.{IsAperyTable};
 
+use crate::sums::sum_bounds;
 use sg_nat::Nats;
 use std::alloc::{AllocError, Global};
 
@@ -48,24 +50,78 @@ fn half_count(minimal: &[u64], number: u64) -> usize
     high
 }
 
-/// Whether a number is the sum of a lesser one among the ascending `minimal`, and of a number that is at least the entry
-/// of its class. Of two such summands one is at most the half, so only those are tried, from both ends, near which one is
-/// mostly found.
-fn is_spare(table: &[u64], minimal: &[u64], number: u64) -> bool
+/// The place of a summand of a number among the ascending `minimal`: one that leaves a number that is at least the entry
+/// of its class. Of two summands one is at most the half, so only those are tried, from `near` outwards.
+fn summand_place(table: &[u64], minimal: &[u64], number: u64, near: usize) -> Option<usize>
     requires not_empty { 0 < length table.now }
     requires ascending { IsStrictlyIncreasing minimal.now }
-    ensures { IsTrue result ↔ IsSpare table.now minimal.now number }
+    ensures found { IfSome result (IsSummandAt table.now minimal.now number) }
+    ensures none { IsNone result → IsSpare table.now minimal.now number → ⊥ }
 {
     let count = half_count(minimal, number);
-    for near in 0..count.div_ceil(2) {
-        if is_above_entry(table, number - minimal[near]) {
-            return true;
+    let start = if near < count { near } else { 0 };
+    for step in 0..count {
+        let above = start + step;
+        if above < count && is_above_entry(table, number - minimal[above]) {
+            return Some(above);
         }
-        if is_above_entry(table, number - minimal[count - 1 - near]) {
-            return true;
+        if step <= start && is_above_entry(table, number - minimal[start - step]) {
+            return Some(start - step);
         }
     }
-    false
+    None
+}
+
+/// Whether a number has a summand, with no search where it is below the bound for sums of its class. The place that is
+/// found is kept for the next number of the class, which mostly has a summand near it.
+fn is_spare(
+    table: &[u64],
+    bounds: &[u64],
+    places: &mut [usize],
+    minimal: &[u64],
+    number: u64,
+) -> bool
+    requires not_empty { 0 < length table.now }
+    requires ascending { IsStrictlyIncreasing minimal.now }
+    requires bounds { 0 < length bounds.now }
+    requires bounded { IsSpare table.now minimal.now number → IsAboveEntry bounds.now number }
+    requires places { length places.old ≡ length bounds.now }
+    ensures { IsTrue result ↔ IsSpare table.now minimal.now number }
+{
+    if !is_above_entry(bounds, number) {
+        return false;
+    }
+    let class = (number % bounds.len() as u64) as usize;
+    let Some(place) = summand_place(table, minimal, number, places[class]) else {
+        return false;
+    };
+    places[class] = place;
+    true
+}
+
+/// The ascending entries that are not spare, by bounds for the sums of each class, and a place for each to start from.
+fn part_within(
+    alloc: Global,
+    table: &[u64],
+    entries: &[u64],
+    bounds: &[u64],
+    places: &mut [usize],
+) -> Result<Nats, AllocError>
+    requires not_empty { 0 < length table.now }
+    requires ascending { IsStrictlyIncreasing entries.now }
+    requires positive { EachIndex entries.now (λ k. 0 < slice_index entries.now k) }
+    requires made { (x : ℕ) → IsAboveEntry table.now x → IsMember entries.now x }
+    requires bounds { AreSumBounds entries.now bounds.now }
+    requires places { length places.old ≡ length bounds.now }
+    ensures { IfOk result (λ part. IsPartOf table.now entries.now part (length entries.now)) }
+{
+    let mut part = Nats::new(alloc);
+    for entry in entries {
+        if !is_spare(table, bounds, places, part.as_slice(), *entry) {
+            part.push(*entry)?;
+        }
+    }
+    Ok(part)
 }
 
 /// The ascending entries that are not spare.
@@ -73,19 +129,17 @@ pub fn needed_part(alloc: Global, table: &[u64], entries: &[u64]) -> Result<Nats
     requires not_empty { 0 < length table.now }
     requires ascending { IsStrictlyIncreasing entries.now }
     requires positive { EachIndex entries.now (λ k. 0 < slice_index entries.now k) }
+    requires made { (x : ℕ) → IsAboveEntry table.now x → IsMember entries.now x }
     ensures { IfOk result (λ part. IsPartOf table.now entries.now part (length entries.now)) }
 {
-    let mut part = Nats::new(alloc);
-    for entry in entries {
-        if !is_spare(table, part.as_slice(), *entry) {
-            part.push(*entry)?;
-        }
-    }
-    Ok(part)
+    let bounds = sum_bounds(alloc, entries)?;
+    let mut places = vec![in alloc; 0; bounds.len()]?;
+    part_within(alloc, table, entries, &bounds, &mut places)
 }
 
-/// The minimal generators among the given ones, of which `table` is an Apery list. An entry below twice the least is
-/// settled by finding that half, another by at most one look-up more for each minimal generator up to its half.
+/// The minimal generators among the given ones, of which `table` is an Apery list. An entry below the bound for sums of
+/// its class is settled by that, and so is each below twice the least; another by at most one look-up for each minimal
+/// generator up to its half.
 pub fn minimal_part(alloc: Global, table: &[u64], entries: &[u64]) -> Result<Nats, AllocError>
     requires table { IsAperyTable entries.now table.now }
     requires ascending { IsStrictlyIncreasing entries.now }

@@ -31,6 +31,22 @@ fn generators_are_the_minimal_ones(rt: HostRuntime) -> Result<(), Fail> {
 }
 
 #[test]
+fn generators_in_one_run(rt: HostRuntime) -> Result<(), Fail> {
+    let run = [
+        33, 35, 37, 39, 41, 43, 45, 47, 49, 51, 53, 55, 57, 59, 61, 63, 65, 67, 69, 71, 73, 75, 77,
+        79, 81, 83, 85, 87, 89, 91, 93, 95, 97,
+    ];
+    let table = Table::from_generators(rt.alloc(), &run)?;
+    assert_eq!(rt; table.generators().as_slice(), run.as_slice());
+    let mut more = Vec::from_slice(rt.alloc(), &run)?;
+    more.push(66)?;
+    more.push(99)?;
+    let same = Table::from_generators(rt.alloc(), &more)?;
+    assert_eq!(rt; same.generators().as_slice(), run.as_slice());
+    Ok(())
+}
+
+#[test]
 fn the_table_of_3_5_7(rt: HostRuntime) -> Result<(), Fail> {
     let table = Table::from_generators(rt.alloc(), &[3, 5, 7])?;
     assert_eq!(rt; table.apery(), [0, 7, 5].as_slice());

@@ -1,7 +1,7 @@
 use Rattle.std.proofs.Common.{ℕ, ◌<◌, length, get_or, refl, sym, subst}
 use Rattle.sg_apery.specs.Classes.{AreClassGenerators}
 use Rattle.sg_apery.specs.Minimal.{IsPartOf}
-use Rattle.sg_apery.proofs.KunzLemmas.{class-positive, kunz-closed, closed-part}
+use Rattle.sg_apery.proofs.KunzLemmas.{class-positive, kunz-closed, closed-part, member-made}
 use Rattle.sg_apery.proofs.kunz.is_kunz.Goals as goal
 
 pub needed_part-requires-clause-positive : goal.needed_part-requires-clause-positive
@@ -9,6 +9,13 @@ needed_part-requires-clause-positive c =
     let items = c.in_ok-entries.entries.items in
     subst (λ xs. (i : ℕ) → i < length xs → 0 < get_or xs i 0) (sym c.deref.ensures.value)
     (class-positive c.args.list.now items (c.if-not-is_class_list.ensures.0 refl) c.in_ok-entries.ensures)
+
+pub needed_part-requires-clause-made : goal.needed_part-requires-clause-made
+needed_part-requires-clause-made c =
+    let list = c.args.list.now in
+    let entries = c.deref.result.now in
+    let g : AreClassGenerators list entries = subst (AreClassGenerators list) (sym c.deref.ensures.value) c.in_ok-entries.ensures in
+    member-made list entries (c.if-not-is_class_list.ensures.0 refl) g.keeps
 
 pub returns : goal.returns
 returns c =

@@ -1,11 +1,20 @@
 use Rattle.std.proofs.Common.{get_or, refl, sym, subst, arith}
 use Rattle.sg_apery.specs.Minimal.{IsSpare}
 use Rattle.sg_apery.proofs.GeneratorLemmas.{part-none, part-push, part-skip}
-use Rattle.sg_apery.proofs.minimal.needed_part.Goals as goal
-use Rattle.sg_apery.proofs.minimal.needed_part.Goals.{then-not-is_spare+in_ok-push, else-not-is_spare}
+use Rattle.sg_apery.proofs.SumLemmas.{spare-bounded}
+use Rattle.sg_apery.proofs.minimal.part_within.Goals as goal
+use Rattle.sg_apery.proofs.minimal.part_within.Goals.{then-not-is_spare+in_ok-push, else-not-is_spare}
 
 pub loop-entry-init : goal.loop-entry-init
 loop-entry-init c = rw c.new-part.ensures (part-none c.args.table.now c.args.entries.now)
+
+pub is_spare-requires-clause-bounded : goal.is_spare-requires-clause-bounded
+is_spare-requires-clause-bounded c spare =
+    let table = c.args.table.now in
+    let entries = c.args.entries.now in
+    let w = get_or entries c.loop-entry.entry-index 0 in
+    let here : IsSpare table c.loop-entry.part w = subst (λ m. IsSpare table m w) c.as_slice.ensures spare in
+    spare-bounded table entries c.loop-entry.part c.args.bounds.now c.loop-entry.entry-index w c.requires.positive c.requires.made c.loop-entry.invariant c.requires.bounds here
 
 pub loop-entry-preserved : goal.loop-entry-preserved
 loop-entry-preserved c =

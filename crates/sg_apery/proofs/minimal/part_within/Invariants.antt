@@ -1,5 +1,5 @@
 use Rattle.sg_apery.specs.Minimal.{IsPartOf}
-use Rattle.sg_apery.proofs.minimal.needed_part.Given as goal
+use Rattle.sg_apery.proofs.minimal.part_within.Given as goal
 
 -- the part of the entries so far
 abbrev pub invariant-loop-entry : goal.invariant-loop-entry
