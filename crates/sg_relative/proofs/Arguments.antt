@@ -3,8 +3,9 @@ use Rattle.std.proofs.Common.{◌≡◌, ℕ, ℤ, Option, Some, None, Result, E
 use Rattle.std.proofs.lemmas.Result.{err_from_is_err_and}
 use Rattle.std.specs.Option.{option_map}
 use Rattle.sg_value.specs.Data.{ideals}
-use Rattle.sg_value.specs.Known.{Known}
-use Rattle.sg_value.specs.Plain.{Named, RelativeIdeal, contents, plain, thing_at}
+use Rattle.sg_value.specs.Known.{Known, named}
+use Rattle.sg_value.proofs.OneStore.{data_map-kept}
+use Rattle.sg_value.specs.Plain.{Named, AllKnown, IsKept, RelativeIdeal, contents, plain, thing_at}
 use Rattle.sg_value.specs.declared.value.Value.{Value}
 use Rattle.sg_rows.specs.Order.{Case}
 use Rattle.sg_rows.specs.Kinds.{given, as_ideal, as_integer}
@@ -43,3 +44,7 @@ of_this_ideal names store v f r i is h = subst (λ o. Replies r store (given o f
 pub of_integer : (names : Named) (store : Known) (v : Value) (f : ℤ → Case) (r : Result Value CallFault) (z : ℤ) → Some z ≡ as_integer (contents v) → Replies r store (f z)
     → Replies r store (given (as_integer (plain names v)) f)
 of_integer names store v f r z is h = subst (λ o. Replies r store (given o f)) (is ∙ sym (as_integer-plain (thing_at names) (contents v))) h
+
+-- what is known stays known
+pub known_later : (old new : Known) (v : Value) → IsKept (named old) (named new) → AllKnown (named old) v → AllKnown (named new) v
+known_later old new v keeps known = (data_map-kept (named old) (named new) keeps (contents v) known).0
