@@ -39,7 +39,7 @@ item_lawful (Some ds) (Some (negsuc n)) h = tt
 
 pub answer_some : (q : Query) → IsLawfulQuery q → SomeReply (IsAnswer q)
 answer_some (calls name args) h = commands_some name args h
-answer_some (combines op a b) h = operators_some op a b
+answer_some (combines op a b) h = operators_some op a b h.0 h.1
 answer_some (negates a) h = sign_some a
 answer_some (lists ds) h = reply_some (fits (answers (λ d. d ≡ list ds))) (answers_some _ (is_some_value (list ds) h))
 answer_some (spans a b) h =

@@ -1,4 +1,5 @@
-use Rattle.std.proofs.Common.{sym, ◌∙◌}
+use Rattle.std.proofs.Common.{sym, ◌∙◌, subst}
+use Rattle.sg_store.specs.Interned.{Keeps}
 use Rattle.sg_tree.specs.TreeView.{code_of}
 use Rattle.sg_eval.specs.Machine.{state_of}
 use Rattle.sg_eval.proofs.Stepping.{step_ended, step_on, step_refused}
@@ -16,3 +17,6 @@ returns-in_err-exec-clause-executes g c =
 pub returns-clause-executes : goal.returns-clause-executes
 returns-clause-executes g c =
     step_on (code_of c.args.stmt.now) (state_of c.args.self.now) (state_of c.clear.new.self) c.clear.ensures.variables (state_of c.exec.new.machine) _ _ (sym c.is_quit.ensures ∙ c.if-is_quit.false) c.in_ok-exec.ensures.done
+
+pub returns-in_err-exec-clause-keeps : goal.returns-in_err-exec-clause-keeps
+returns-in_err-exec-clause-keeps g c = subst (λ names. Keeps names (state_of c.exec.new.machine).names) c.clear.ensures.names c.in_err-exec.ensures.done.keeps
