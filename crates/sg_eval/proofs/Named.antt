@@ -1,12 +1,17 @@
 -- Variables that are found by their names.
-use Rattle.std.proofs.Common.{◌≡◌, ℕ, zero, suc, List, [], ◌∷◌, get_or, Bool, true, false, cond, Option, Some, None, MatchOption, Bor, Result, Ok, Err, OnOk, OnErr, Vec, Global, refl, ap, ap₂, sym, subst, arith}
+use Rattle.std.proofs.Common.{◌≡◌, ℕ, zero, suc, List, [], ◌∷◌, get_or, Bool, true, false, cond, Option, Some, None, MatchOption, Bor, Result, Ok, Err, OnOk, OnErr, Vec, Global, refl, ap, ap₂, sym, subst, ◌∙◌, slice_get, arith}
 use Rattle.sg_value.specs.Known.{Known, named}
 use Rattle.std.specs.Prelude.{⊤}
 use Rattle.std.proofs.lemmas.Slice.Eq.{bytes_eq-Decides}
 use Rattle.std.specs.Str.{bytes_eq}
 use Rattle.std.specs.Option.{option_copied}
 use Rattle.std.specs.Map.{lookup, set_value}
-use Rattle.indexmap.specs.IndexMap.{insert_entry}
+use Rattle.std.specs.Cmp.{IsEquivalence}
+use Rattle.std.specs.List.{IsDistinct}
+use Rattle.std.specs.Map.{keys_of}
+use Rattle.indexmap.specs.IndexMap.{insert_entry, set_value_at}
+use Rattle.indexmap.proofs.MapLemmas.{insert_entry-first}
+use Rattle.indexmap.proofs.RemoveLemmas.{own_first}
 use Rattle.sg_value.specs.Plain.{AllKnown, plain}
 use Rattle.sg_value.specs.declared.value.Value.{Value}
 use Rattle.sg_store.specs.Interned.{Keeps}
@@ -20,6 +25,29 @@ Entries = List (Vec ℕ Global × Value)
 
 abbrev pub is_named : List ℕ → Vec ℕ Global → Bool
 is_named x k = bytes_eq x k.items
+
+bytes_eq-symm : (xs ys : List ℕ) → bytes_eq xs ys ≡ bytes_eq ys xs
+bytes_eq-symm xs ys = (elim (bytes_eq xs ys) as (λ b. bytes_eq xs ys ≡ b → b ≡ bytes_eq ys xs) [
+  | true ↦ λ t. sym ((bytes_eq-Decides ys xs).1 (sym ((bytes_eq-Decides xs ys).0 t)))
+  | false ↦ λ t. (elim (bytes_eq ys xs) as (λ b. bytes_eq ys xs ≡ b → false ≡ b) [
+    | true ↦ λ u. sym t ∙ (bytes_eq-Decides xs ys).1 (sym ((bytes_eq-Decides ys xs).0 u))
+    | false ↦ λ u. refl
+  ]) refl
+]) refl
+
+same_name-laws : IsEquivalence (λ (a b : Vec ℕ Global). bytes_eq a.items b.items)
+same_name-laws = record {
+  refl = λ a. (bytes_eq-Decides a.items a.items).1 refl;
+  symm = λ a b. bytes_eq-symm a.items b.items;
+  congr = λ a b d h. ap (λ xs. bytes_eq xs d.items) ((bytes_eq-Decides a.items b.items).0 h);
+}
+
+-- the value at the place of a name is that of the name
+pub set-at : (es : Entries) (i : ℕ) (e : Vec ℕ Global × Value) (v : Value) → IsDistinct (λ (a b : Vec ℕ Global). bytes_eq a.items b.items) (keys_of es) → slice_get es i ≡ Some e
+    → set_value_at es i v ≡ insert_entry (λ a b. bytes_eq a.items b.items) es e.0 v
+set-at es i e v distinct at =
+    let same = λ (a b : Vec ℕ Global). bytes_eq a.items b.items in
+    sym (insert_entry-first same e.0 v es i (own_first same same_name-laws es i e.0 e.1 distinct at))
 
 module _ (names : Known) where
   pub values-set : (x : List ℕ) (es : Entries) (u v : Value) → Some u ≡ lookup (is_named x) es → values_of names (set_value (is_named x) es v) ≡ with_value x (plain (named names) v) (values_of names es)
@@ -56,6 +84,19 @@ module _ (names : Known) where
     | true ↦ known-first (e.0, v) es h (known-rest e es all)
     | false ↦ known-first e (insert_entry (λ a b. bytes_eq a.items b.items) es k v) (all 0 e (omega arith)) (known-insert k es v (known-rest e es all) h)
   ])
+
+  -- the same, of the variables
+  pub values-set_at : (x : List ℕ) (es : Entries) (i : ℕ) (e : Vec ℕ Global × Value) (v : Value) → IsDistinct (λ (a b : Vec ℕ Global). bytes_eq a.items b.items) (keys_of es) → slice_get es i ≡ Some e → e.0.items ≡ x
+      → values_of names (set_value_at es i v) ≡ with_value x (plain (named names) v) (values_of names es)
+  values-set_at x es i e v distinct at is = ap (values_of names) (set-at es i e v distinct at) ∙ (values-insert e.0 es v ∙ ap (λ y. with_value y (plain (named names) v) (values_of names es)) is)
+
+  pub known-set_at : (es : Entries) (i : ℕ) (e : Vec ℕ Global × Value) (v : Value) → IsDistinct (λ (a b : Vec ℕ Global). bytes_eq a.items b.items) (keys_of es) → slice_get es i ≡ Some e
+      → AreKnownIn names es → AllKnown (named names) v → AreKnownIn names (set_value_at es i v)
+  known-set_at es i e v distinct at all h = subst (AreKnownIn names) (sym (set-at es i e v distinct at)) (known-insert e.0 es v all h)
+
+  -- an entry that is found by its place
+  pub found_at : (x : List ℕ) (es : Entries) (k : Vec ℕ Global) (o : Option Value) → lookup (is_named k.items) es ≡ o → k.items ≡ x → o ≡ lookup (is_named x) es
+  found_at x es k o at is = sym at ∙ ap (λ y. lookup (is_named y) es) is
 
   -- the value that is found
   pub lookup-none : (x : List ℕ) (es : Entries) → None ≡ lookup (is_named x) es → lookup (bytes_eq x) (values_of names es) ≡ None

@@ -16,7 +16,7 @@ use Rattle.sg_tree.specs.declared.expr.Op.TheVariants.{Or, And, Plus, Less, Time
 use Rattle.sg_calls.specs.declared.operator.Operator.{Operator}
 use Rattle.sg_calls.specs.declared.operator.Operator.TheVariants as operator
 use Rattle.sg_eval.specs.Expressions.{eval, eval_all, eval_places, eval_links, ask, decided}
-use Rattle.sg_eval.specs.Linked.{linked, placed, ends_chain, arithmetic}
+use Rattle.sg_eval.specs.Linked.{linked, placed, ends_chain, arithmetic, compared_with}
 use Rattle.sg_eval.specs.Outcomes.{Evaluates, plain_in, known_in}
 use Rattle.sg_eval.specs.Process.{Process, gives, refuses, reads, asks, sets, writes, ◌>>=◌}
 use Rattle.sg_eval.specs.Queries.{indexes, combines}
@@ -191,13 +191,13 @@ linked_as ps Less t d = refl
 linked_as ps Times t d = refl
 linked_as ps Mod t d = refl
 
-pub rest_combines : (op : Op) (o : Operator) (d e : Plain) → arithmetic op ≡ Some o → ask (combines o d e) ≡ link_rest op d e
-rest_combines Or o d e is = absurd (cc)
-rest_combines And o d e is = absurd (cc)
-rest_combines Plus o d e is = let same : o ≡ operator.Plus = cc in ap (λ x. ask (combines x d e)) same
-rest_combines Less o d e is = let same : o ≡ operator.Less = cc in ap (λ x. ask (combines x d e)) same
-rest_combines Times o d e is = let same : o ≡ operator.Times = cc in ap (λ x. ask (combines x d e)) same
-rest_combines Mod o d e is = let same : o ≡ operator.Mod = cc in ap (λ x. ask (combines x d e)) same
+pub linked_combines : (ps : Vars) (op : Op) (o : Operator) (t : Tree) (d : Plain) → arithmetic op ≡ Some o → compared_with ps o d t ≡ linked ps op t d
+linked_combines ps Or o t d is = absurd (cc)
+linked_combines ps And o t d is = absurd (cc)
+linked_combines ps Plus o t d is = let same : o ≡ operator.Plus = cc in ap (λ x. compared_with ps x d t) same
+linked_combines ps Less o t d is = let same : o ≡ operator.Less = cc in ap (λ x. compared_with ps x d t) same
+linked_combines ps Times o t d is = let same : o ≡ operator.Times = cc in ap (λ x. compared_with ps x d t) same
+linked_combines ps Mod o t d is = let same : o ≡ operator.Mod = cc in ap (λ x. compared_with ps x d t) same
 
 pub rest_decides : (op : Op) (d e : Plain) → arithmetic op ≡ None → decided e (λ b. gives e) ≡ link_rest op d e
 rest_decides Or d e is = refl

@@ -1,6 +1,7 @@
 -- Entries of lists by their places.
 use Rattle.std.specs.Prelude.{ℕ, zero, suc, ℤ, pos, negsuc, ◌+ℤ◌, Option, Some, None}
 use Rattle.sg_value.specs.Data.{Data, int, Items, none, item, Kind}
+
 -- the entry at a place, counted from 1 on
 abbrev pub entry_from : {H : Kind → Type 0} → Items H → ℕ → Option (Data H)
 entry_from none n = None

@@ -110,6 +110,7 @@ pub fn index(alloc: Global, list: &Value, place: &Value) -> Result<Value, CallFa
 }
 
 /// Puts a value behind the others.
+#[inline(always)]
 pub fn put(values: &mut Vec<Value>, value: Value) -> Result<(), AllocError>
     ensures { OnOk result (values.new.items ≡ values.old.items ++ value ∷ []) }
 {
@@ -150,7 +151,7 @@ fn integers_from(alloc: Global, first: i64, count: u64) -> Result<Vec<Value>, Al
     requires small { count < 4194304 }
     ensures { IfOk result (λ vs. contents_of_all vs.items ≡ integers_in first count) }
 {
-    let mut values = Vec::new(alloc);
+    let mut values = Vec::with_capacity(alloc, count as usize)?;
     for i in 0..count {
         put(&mut values, Value::Int(first + i as i64))?;
     }

@@ -4,7 +4,7 @@ ghost use Rattle.std.specs.Prelude.{◌≡◌, ◌∷◌, Some, None, MatchOptio
 ghost use Rattle.sg_value.specs.Known.{named};
 ghost use Rattle.sg_value.specs.Plain.{AllKnown, AllKnownIn, plain, plain_of_all, Plain};
 ghost use Rattle.sg_tree.specs.TreeView.{tree_of, trees_of, links_of, argument_of, arguments_of};
-ghost use Rattle.sg_tree.specs.Tree.{display as displayed, call as called};
+ghost use Rattle.sg_tree.specs.Tree.{display as displayed, call as called, minus as minus_tree, negation as not_tree};
 ghost use Rattle.sg_eval.specs.Expressions.{eval as meaning, eval_all as meaning_of_all, eval_places, eval_links, eval_given, eval_folding};
 ghost use Rattle.sg_eval.specs.Folded.{fold_on};
 ghost use Rattle.sg_eval.specs.Given.{plain_if, known_if, plain_where, known_where, eval_argument};
@@ -50,17 +50,57 @@ pub fn eval(alloc: Global, machine: &mut Machine, e: &Expr) -> Result<Value, Cal
             let value = eval(alloc, machine, list)?;
             item(alloc, machine, places, value)
         }
-        Expr::Minus(count, operand) => negated(*count, eval(alloc, machine, operand)?),
-        Expr::Not(count, operand) => turned(*count, &eval(alloc, machine, operand)?),
+        Expr::Minus(count, operand) => minus_of(alloc, machine, operand, *count),
+        Expr::Not(count, operand) => not_of(alloc, machine, operand, *count),
         Expr::Chain(first, links) => {
-            let value = eval(alloc, machine, first)?;
+            let value = operand_of(alloc, machine, first)?;
             chain(alloc, machine, links, value)
         }
         Expr::Compare(relation, left, right) => {
-            let a = eval(alloc, machine, left)?;
+            let a = operand_of(alloc, machine, left)?;
             compared(alloc, machine, right, relation_of(*relation), a)
         }
     }
+}
+
+/// The value of an operand. An integer and a name, which most operands are, need no call of `eval`.
+#[cycle(eval)]
+fn operand_of(alloc: Global, machine: &mut Machine, e: &Expr) -> Result<Value, CallFault>
+    ensures { Evaluates plain AllKnown result (state_of machine.old) (state_of machine.new) (λ names. meaning (state_of machine.old).parameters (tree_of e.now)) }
+{
+    match e {
+        Expr::Int(z) => Ok(Value::Int(*z)),
+        Expr::Var(name) => machine.named(alloc, name.as_slice()),
+        _ => eval(alloc, machine, e),
+    }
+}
+
+/// The value of an expression after so many minus signs.
+#[inline(never)]
+#[cycle(eval)]
+fn minus_of(
+    alloc: Global,
+    machine: &mut Machine,
+    operand: &Expr,
+    count: u64,
+) -> Result<Value, CallFault>
+    ensures { Evaluates plain AllKnown result (state_of machine.old) (state_of machine.new) (λ names. meaning (state_of machine.old).parameters (minus_tree count (tree_of operand.now))) }
+{
+    negated(count, eval(alloc, machine, operand)?)
+}
+
+/// The value of an expression after so many times the word `not`.
+#[inline(never)]
+#[cycle(eval)]
+fn not_of(
+    alloc: Global,
+    machine: &mut Machine,
+    operand: &Expr,
+    count: u64,
+) -> Result<Value, CallFault>
+    ensures { Evaluates plain AllKnown result (state_of machine.old) (state_of machine.new) (λ names. meaning (state_of machine.old).parameters (not_tree count (tree_of operand.now))) }
+{
+    turned(count, &eval(alloc, machine, operand)?)
 }
 
 /// What a call of a command gives.
@@ -184,7 +224,7 @@ fn next_item(
         Some(value) => item_at(alloc, machine, place, value),
         None => {
             machine.check_named(name)?;
-            let at = eval(alloc, machine, place)?;
+            let at = operand_of(alloc, machine, place)?;
             machine.entry(alloc, name, &at)
         }
     }
@@ -205,7 +245,7 @@ fn compared(
     if let Expr::Var(name) = right {
         return machine.combine_named(alloc, op, &left, name.as_slice());
     }
-    let b = eval(alloc, machine, right)?;
+    let b = operand_of(alloc, machine, right)?;
     machine.combine(alloc, op, &left, &b)
 }
 
@@ -220,7 +260,7 @@ fn item_at(
     requires { AllKnown (named (state_of machine.old).names) list }
     ensures { Evaluates plain AllKnown result (state_of machine.old) (state_of machine.new) (λ names. placed (state_of machine.old).parameters (plain names list) (tree_of place.now)) }
 {
-    let at = eval(alloc, machine, place)?;
+    let at = operand_of(alloc, machine, place)?;
     index(alloc, &list, &at)
 }
 
@@ -257,10 +297,9 @@ fn linked(
     requires { AllKnown (named (state_of machine.old).names) left }
     ensures { Evaluates plain AllKnown result (state_of machine.old) (state_of machine.new) (λ names. linked_meaning (state_of machine.old).parameters op (tree_of operand.now) (plain names left)) }
 {
-    let right = eval(alloc, machine, operand)?;
     match operator_of(op) {
-        Some(operator) => machine.combine(alloc, operator, &left, &right),
-        None => truth_itself(right),
+        Some(operator) => compared(alloc, machine, operand, operator, left),
+        None => truth_itself(eval(alloc, machine, operand)?),
     }
 }
 

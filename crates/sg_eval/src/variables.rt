@@ -1,6 +1,10 @@
 //! The variables, each name with its value.
 
-ghost use Rattle.std.specs.Prelude.{◌≡◌, ℕ, List, Some, None, MatchOption, OnOk, OnErr, slice_get, ⊤};
+ghost use Rattle.std.specs.Prelude.{◌≡◌, ℕ, List, Some, None, MatchOption, IfSome, OnOk, OnErr, slice_get, ⊤};
+ghost use Rattle.std.specs.Prelude.{Vec, ◌<◌};
+ghost use Rattle.indexmap.specs.IndexMap.{index_map_len};
+ghost use Rattle.std.specs.Global.{Global};
+ghost use Rattle.sg_value.specs.declared.value.Value.{Value};
 ghost use Rattle.sg_value.specs.Known.{Known, named};
 ghost use Rattle.std.specs.Map.{lookup};
 ghost use Rattle.std.specs.Str.{bytes_eq};
@@ -19,11 +23,38 @@ use std::alloc::{AllocError, Global};
 /// Each name with its value, in the order in which the names first got one.
 pub type Variables = IndexMap<Vec<u8>, Value>;
 
+/// How many variables are compared with a name before it is looked up by its hash.
+const NEAR: usize = 4;
+
+/// The place of a variable among the first few.
+#[inline(always)]
+fn near(variables: &Variables, name: &[u8]) -> Option<usize>
+    ensures within { IfSome result (λ i. i < index_map_len variables.now) }
+    ensures named { IfSome result (λ i. (e : Vec ℕ Global × Value) × (slice_get variables.now.entries i ≡ Some e) × (e.0.items ≡ name.now)) }
+{
+    for place in 0..NEAR {
+        match variables.get_index(place) {
+            Some((key, _)) => {
+                if key.as_slice() == name {
+                    return Some(place);
+                }
+            }
+            None => return None,
+        }
+    }
+    None
+}
+
 /// The value of a variable.
 pub fn value_of<'a>(variables: &'a Variables, name: &[u8]) -> Option<&'a Value>
     ensures found { (names : Known) → MatchOption result (lookup (bytes_eq name.now) (values_of names variables.now.entries) ≡ None) (λ v. lookup (bytes_eq name.now) (values_of names variables.now.entries) ≡ Some (plain (named names) v.now)) }
     ensures known { (names : Known) → AreKnownIn names variables.now.entries → MatchOption result ⊤ (λ v. AllKnown (named names) v.now) }
 {
+    if let Some(place) = near(variables, name) {
+        if let Some((_, value)) = variables.get_index(place) {
+            return Some(value);
+        }
+    }
     variables.get(name)
 }
 
@@ -38,6 +69,10 @@ pub fn set(
     ensures known { OnOk result ((names : Known) → AreKnownIn names variables.old.entries → AllKnown (named names) value → AreKnownIn names variables.new.entries) }
     ensures err { OnErr result (variables.new.entries ≡ variables.old.entries) }
 {
+    if let Some(place) = near(variables, name) {
+        *variables.get_index_mut(place).unwrap() = value;
+        return Ok(());
+    }
     if let Some(place) = variables.get_mut(name) {
         *place = value;
         return Ok(());

@@ -20,7 +20,7 @@ use Rattle.sg_rows.specs.declared.fault.CallFault.TheVariants.{Script}
 use Rattle.sg_rows.specs.declared.fault.Fault.TheVariants.{WrongType, WrongCount}
 use Rattle.sg_eval.specs.Given.{plain_if, known_if, plain_where, known_where, eval_argument}
 use Rattle.sg_eval.proofs.GivenSteps.{arguments_of-drop, after_given, given_none, given_over, known_with, known_where_later, count_with, given_then, given_exit, call_right, call_wrong, call_folds, evaluates_refuses}
-use Rattle.sg_eval.proofs.Steps.{trees_of-drop, links_of-drop, place_then, place_exit, value_then, value_exit, link_then, link_exit, link_as, unless_ended, front_none, front_over, after_front, all_known_more, link_rest, linked_as, rest_combines, rest_decides}
+use Rattle.sg_eval.proofs.Steps.{trees_of-drop, links_of-drop, place_then, place_exit, value_then, value_exit, link_then, link_exit, link_as, unless_ended, front_none, front_over, after_front, all_known_more, link_rest, linked_as, linked_combines, rest_decides}
 use Rattle.sg_eval.specs.Truths.{itself, no_semigroup}
 use Rattle.sg_value.specs.Data.{none, item as item_of}
 use Rattle.sg_rows.specs.Order.{Plain}
@@ -55,94 +55,10 @@ pub item_at-returns : goal.item_at-returns
 item_at-returns t c =
     let ps = (state_of c.args.machine.now).parameters in
     let s = state_of c.args.machine.now in
-    let s1 = state_of c.eval.new.machine in
+    let s1 = state_of c.operand_of.new.machine in
     let e = c.in_ok-at.ensures in
     evaluates_then plain AllKnown plain AllKnown c.in_ok-at.at c.index.result s s1 s1 (λ names. eval ps (tree_of c.args.place.now)) (λ names i. ask (indexes (plain names c.args.list) i)) e
     (c.index.ensures s1 (known_later s.names s1.names c.args.list e.keeps c.requires))
-
-pub eval-returns-in_err-value-in-Item : goal.eval-returns-in_err-value-in-Item
-eval-returns-in_err-value-in-Item t c =
-    let s = state_of c.args.machine.now in
-    let ps = s.parameters in
-    let list = tree_of c.deref-in-Item-2.result.now in
-    let places = trees_of c.in-Item.places.items in
-    let r = c.from_residual-in_err-value-in-Item.result in
-    let seen = ap tree_of c.in-Item.is ∙ (view-Item c.in-Item.list c.in-Item.places ∙ ap (λ x. item (tree_of x) places) (sym c.deref-in-Item-2.ensures)) in
-    subst (λ x. Evaluates plain AllKnown r s (state_of c.eval-in-Item.new.machine) (λ names. eval ps x)) (sym seen)
-    (evaluates_exit plain AllKnown plain AllKnown r _ s (state_of c.eval-in-Item.new.machine) (λ names. eval ps list) (λ names d. eval_places ps d places) c.from_residual-in_err-value-in-Item.ensures.1 c.in_err-value-in-Item.ensures)
-
-pub eval-returns-in_ok-value-in-Item : goal.eval-returns-in_ok-value-in-Item
-eval-returns-in_ok-value-in-Item t c =
-    let s = state_of c.args.machine.now in
-    let s1 = state_of c.eval-in-Item.new.machine in
-    let s2 = state_of c.item.new.machine in
-    let ps = s.parameters in
-    let list = tree_of c.deref-in-Item-2.result.now in
-    let places = trees_of c.deref-in-Item-3.result.now in
-    let r = c.item.result in
-    let seen = ap tree_of c.in-Item.is ∙ (view-Item c.in-Item.list c.in-Item.places
-    ∙ (ap (λ x. item (tree_of x) (trees_of c.in-Item.places.items)) (sym c.deref-in-Item-2.ensures) ∙ ap (λ xs. item list (trees_of xs)) (sym c.deref-in-Item-3.ensures.value))) in
-    subst (λ x. Evaluates plain AllKnown r s s2 (λ names. eval ps x)) (sym seen)
-    (evaluates_on plain AllKnown plain AllKnown c.in_ok-value-in-Item.value r s s1 s2 (λ names. eval ps list) (λ qs names d. eval_places qs d places) c.in_ok-value-in-Item.ensures c.item.ensures)
-
-pub eval-returns-in_err-value-in-Chain : goal.eval-returns-in_err-value-in-Chain
-eval-returns-in_err-value-in-Chain t c =
-    let s = state_of c.args.machine.now in
-    let s1 = state_of c.eval-in-Chain.new.machine in
-    let ps = s.parameters in
-    let first = tree_of c.deref-in-Chain.result.now in
-    let ls = links_of c.in-Chain.links.items in
-    let r = c.from_residual-in_err-value-in-Chain.result in
-    let seen = ap tree_of c.in-Chain.is ∙ (view-Chain c.in-Chain.first c.in-Chain.links ∙ ap (λ x. chain (tree_of x) ls) (sym c.deref-in-Chain.ensures)) in
-    subst (λ x. Evaluates plain AllKnown r s s1 (λ names. eval ps x)) (sym seen)
-    (evaluates_exit plain AllKnown plain AllKnown r _ s s1 (λ names. eval ps first) (λ names d. eval_links ps d ls) c.from_residual-in_err-value-in-Chain.ensures.1 c.in_err-value-in-Chain.ensures)
-
-pub eval-returns-in_ok-value-in-Chain : goal.eval-returns-in_ok-value-in-Chain
-eval-returns-in_ok-value-in-Chain t c =
-    let s = state_of c.args.machine.now in
-    let s1 = state_of c.eval-in-Chain.new.machine in
-    let s2 = state_of c.chain.new.machine in
-    let ps = s.parameters in
-    let first = tree_of c.deref-in-Chain.result.now in
-    let ls = links_of c.deref-in-Chain-2.result.now in
-    let r = c.chain.result in
-    let seen = ap tree_of c.in-Chain.is ∙ (view-Chain c.in-Chain.first c.in-Chain.links
-    ∙ (ap (λ x. chain (tree_of x) (links_of c.in-Chain.links.items)) (sym c.deref-in-Chain.ensures) ∙ ap (λ xs. chain first (links_of xs)) (sym c.deref-in-Chain-2.ensures.value))) in
-    subst (λ x. Evaluates plain AllKnown r s s2 (λ names. eval ps x)) (sym seen)
-    (evaluates_on plain AllKnown plain AllKnown c.in_ok-value-in-Chain.value r s s1 s2 (λ names. eval ps first) (λ qs names d. eval_links qs d ls) c.in_ok-value-in-Chain.ensures c.chain.ensures)
-
-pub linked-combine-requires-clause-left : goal.linked-combine-requires-clause-left
-linked-combine-requires-clause-left t c = known_later c.args.machine.now.store c.eval.new.machine.store c.args.left c.in_ok-right.ensures.keeps c.requires
-
-pub eval-returns-in_err-a-in-Compare : goal.eval-returns-in_err-a-in-Compare
-eval-returns-in_err-a-in-Compare t c =
-    let s = state_of c.args.machine.now in
-    let s1 = state_of c.eval-in-Compare.new.machine in
-    let ps = s.parameters in
-    let rel = c.in-Compare.relation in
-    let left = tree_of c.deref-in-Compare.result.now in
-    let right = tree_of c.in-Compare.right.value in
-    let r = c.from_residual-in_err-a-in-Compare.result in
-    let seen = ap tree_of c.in-Compare.is ∙ (view-Compare rel c.in-Compare.left c.in-Compare.right ∙ ap (λ x. compare rel (tree_of x) right) (sym c.deref-in-Compare.ensures)) in
-    subst (λ x. Evaluates plain AllKnown r s s1 (λ names. eval ps x)) (sym seen)
-    (evaluates_exit plain AllKnown plain AllKnown r _ s s1 (λ names. eval ps left) (λ names a. eval ps right >>= (λ b. ask (combines (relation rel) a b))) c.from_residual-in_err-a-in-Compare.ensures.1 c.in_err-a-in-Compare.ensures)
-
-pub eval-returns-in_ok-a-in-Compare : goal.eval-returns-in_ok-a-in-Compare
-eval-returns-in_ok-a-in-Compare t c =
-    let s = state_of c.args.machine.now in
-    let s1 = state_of c.eval-in-Compare.new.machine in
-    let s2 = state_of c.compared.new.machine in
-    let ps = s.parameters in
-    let rel = c.in-Compare.relation in
-    let left = tree_of c.deref-in-Compare.result.now in
-    let right = tree_of c.deref-in-Compare-2.result.now in
-    let a = c.in_ok-a-in-Compare.a in
-    let r = c.compared.result in
-    let seen = ap tree_of c.in-Compare.is ∙ (view-Compare rel c.in-Compare.left c.in-Compare.right
-    ∙ (ap (λ x. compare rel (tree_of x) (tree_of c.in-Compare.right.value)) (sym c.deref-in-Compare.ensures) ∙ ap (λ x. compare rel left (tree_of x)) (sym c.deref-in-Compare-2.ensures))) in
-    subst (λ x. Evaluates plain AllKnown r s s2 (λ names. eval ps x)) (sym seen)
-    (evaluates_on plain AllKnown plain AllKnown a r s s1 s2 (λ names. eval ps left) (λ qs names d. compared_with qs (relation rel) d right) c.in_ok-a-in-Compare.ensures
-    (subst (λ op. Evaluates plain AllKnown r s1 s2 (λ names. compared_with s1.parameters op (plain names a) right)) c.relation_of.ensures c.compared.ensures))
 
 pub compared-returns-in-Var : goal.compared-returns-in-Var
 compared-returns-in-Var t c =
@@ -153,15 +69,15 @@ compared-returns-in-Var t c =
 pub compared-returns-in_err-b : goal.compared-returns-in_err-b
 compared-returns-in_err-b t c =
     let s = state_of c.args.machine.now in
-    evaluates_exit plain AllKnown plain AllKnown c.from_residual.result _ s (state_of c.eval.new.machine) (λ names. eval s.parameters (tree_of c.args.right.now)) (λ names b. ask (combines c.args.op (plain names c.args.left) b)) c.from_residual.ensures.1 c.in_err-b.ensures
+    evaluates_exit plain AllKnown plain AllKnown c.from_residual.result _ s (state_of c.operand_of.new.machine) (λ names. eval s.parameters (tree_of c.args.right.now)) (λ names b. ask (combines c.args.op (plain names c.args.left) b)) c.from_residual.ensures.1 c.in_err-b.ensures
 
 pub compared-combine-requires-clause-left : goal.compared-combine-requires-clause-left
-compared-combine-requires-clause-left t c = known_later c.args.machine.now.store c.eval.new.machine.store c.args.left c.in_ok-b.ensures.keeps c.requires
+compared-combine-requires-clause-left t c = known_later c.args.machine.now.store c.operand_of.new.machine.store c.args.left c.in_ok-b.ensures.keeps c.requires
 
 pub compared-returns : goal.compared-returns
 compared-returns t c =
     let s = state_of c.args.machine.now in
-    let s1 = state_of c.eval.new.machine in
+    let s1 = state_of c.operand_of.new.machine in
     evaluates_then plain AllKnown plain AllKnown c.in_ok-b.b c.combine.result s s1 (state_of c.combine.new.self) (λ names. eval s.parameters (tree_of c.args.right.now)) (λ names b. ask (combines c.args.op (plain names c.args.left) b)) c.in_ok-b.ensures c.combine.ensures
 
 pub next_item-returns-in-Some : goal.next_item-returns-in-Some
@@ -183,7 +99,7 @@ next_item-returns-in_err-check_named-in-None t c =
 pub next_item-returns-in_err-at-in-None : goal.next_item-returns-in_err-at-in-None
 next_item-returns-in_err-at-in-None t c =
     let s = state_of c.args.machine.now in
-    let s1 = state_of c.eval.new.machine in
+    let s1 = state_of c.operand_of.new.machine in
     let ps = s.parameters in
     let x = c.args.name.now in
     let t1 = tree_of c.args.place.now in
@@ -196,7 +112,7 @@ next_item-returns-in_err-at-in-None t c =
 pub next_item-returns-in_ok-at-in-None : goal.next_item-returns-in_ok-at-in-None
 next_item-returns-in_ok-at-in-None t c =
     let s = state_of c.args.machine.now in
-    let s1 = state_of c.eval.new.machine in
+    let s1 = state_of c.operand_of.new.machine in
     let ps = s.parameters in
     let x = c.args.name.now in
     let t1 = tree_of c.args.place.now in
@@ -266,68 +182,6 @@ named_item-returns-in-None t c =
     (subst (λ o. Evaluates plain AllKnown r s s (λ names. items_from ps x (plain_if names o) no_trees)) (sym c.in-None.is)
     (evaluates_as plain AllKnown r s s (λ names. start_of ps x None) (λ names. items_from ps x None no_trees) (λ names. sym (right_unit (start_of ps x None)))
     (subst (λ qs. Evaluates plain AllKnown r s s (λ names. start_of qs x None)) inv.same c.named.ensures))))
-
-pub eval-returns-in-Var-deref : goal.eval-returns-in-Var-deref
-eval-returns-in-Var-deref t c =
-    let s = state_of c.args.machine.now in
-    let s1 = state_of c.named_item.new.machine in
-    let r = c.named_item.result in
-    let x = c.in-Var-deref.name in
-    let listed = ap tree_of (sym c.deref-in-Item.ensures ∙ c.in-Var-deref.is) ∙ view-Var x in
-    let seen = ap tree_of c.in-Item.is ∙ (view-Item c.in-Item.list c.in-Item.places
-    ∙ (ap (λ y. item y (trees_of c.in-Item.places.items)) listed
-    ∙ (ap (λ y. item (variable y) (trees_of c.in-Item.places.items)) (sym c.as_slice-in-Var-deref.ensures) ∙ ap (λ xs. item (variable c.as_slice-in-Var-deref.result.now) (trees_of xs)) (sym c.deref-in-Var-deref.ensures.value)))) in
-    subst (λ y. Evaluates plain AllKnown r s s1 (λ names. eval s.parameters y)) (sym seen) c.named_item.ensures
-
-pub eval-returns-in_err-eval-in-Minus : goal.eval-returns-in_err-eval-in-Minus
-eval-returns-in_err-eval-in-Minus t c =
-    let s = state_of c.args.machine.now in
-    let s1 = state_of c.eval-in-Minus.new.machine in
-    let ps = s.parameters in
-    let n = c.in-Minus.count in
-    let r = c.from_residual-in_err-eval-in-Minus.result in
-    let operand = tree_of c.deref-in-Minus.result.now in
-    let seen = ap tree_of c.in-Minus.is ∙ (view-Minus n c.in-Minus.operand ∙ ap (λ x. minus n (tree_of x)) (sym c.deref-in-Minus.ensures)) in
-    subst (λ x. Evaluates plain AllKnown r s s1 (λ names. eval ps x)) (sym seen)
-    (evaluates_exit plain AllKnown plain AllKnown r _ s s1 (λ names. eval ps operand) (λ names. negated n) c.from_residual-in_err-eval-in-Minus.ensures.1 c.in_err-eval-in-Minus.ensures)
-
-pub eval-returns-in_ok-eval-in-Minus : goal.eval-returns-in_ok-eval-in-Minus
-eval-returns-in_ok-eval-in-Minus t c =
-    let s = state_of c.args.machine.now in
-    let s1 = state_of c.eval-in-Minus.new.machine in
-    let ps = s.parameters in
-    let n = c.in-Minus.count in
-    let r = c.negated.result in
-    let operand = tree_of c.deref-in-Minus.result.now in
-    let e = c.in_ok-eval-in-Minus.ensures in
-    let seen = ap tree_of c.in-Minus.is ∙ (view-Minus n c.in-Minus.operand ∙ ap (λ x. minus n (tree_of x)) (sym c.deref-in-Minus.ensures)) in
-    subst (λ x. Evaluates plain AllKnown r s s1 (λ names. eval ps x)) (sym seen)
-    (evaluates_then plain AllKnown plain AllKnown c.in_ok-eval-in-Minus.field-0 r s s1 s1 (λ names. eval ps operand) (λ names. negated n) e (c.negated.ensures s1 e.is_known))
-
-pub eval-returns-in_err-eval-in-Not : goal.eval-returns-in_err-eval-in-Not
-eval-returns-in_err-eval-in-Not t c =
-    let s = state_of c.args.machine.now in
-    let s1 = state_of c.eval-in-Not.new.machine in
-    let ps = s.parameters in
-    let n = c.in-Not.count in
-    let r = c.from_residual-in_err-eval-in-Not.result in
-    let operand = tree_of c.deref-in-Not.result.now in
-    let seen = ap tree_of c.in-Not.is ∙ (view-Not n c.in-Not.operand ∙ ap (λ x. negation n (tree_of x)) (sym c.deref-in-Not.ensures)) in
-    subst (λ x. Evaluates plain AllKnown r s s1 (λ names. eval ps x)) (sym seen)
-    (evaluates_exit plain AllKnown plain AllKnown r _ s s1 (λ names. eval ps operand) (λ names d. decided d (λ b. gives (truth (turned n b)))) c.from_residual-in_err-eval-in-Not.ensures.1 c.in_err-eval-in-Not.ensures)
-
-pub eval-returns-in_ok-eval-in-Not : goal.eval-returns-in_ok-eval-in-Not
-eval-returns-in_ok-eval-in-Not t c =
-    let s = state_of c.args.machine.now in
-    let s1 = state_of c.eval-in-Not.new.machine in
-    let ps = s.parameters in
-    let n = c.in-Not.count in
-    let r = c.turned.result in
-    let operand = tree_of c.deref-in-Not.result.now in
-    let e = c.in_ok-eval-in-Not.ensures in
-    let seen = ap tree_of c.in-Not.is ∙ (view-Not n c.in-Not.operand ∙ ap (λ x. negation n (tree_of x)) (sym c.deref-in-Not.ensures)) in
-    subst (λ x. Evaluates plain AllKnown r s s1 (λ names. eval ps x)) (sym seen)
-    (evaluates_then plain AllKnown plain AllKnown c.in_ok-eval-in-Not.field-0 r s s1 s1 (λ names. eval ps operand) (λ names d. decided d (λ b. gives (truth (turned n b)))) e (c.turned.ensures s1))
 
 pub eval-returns-in-Var : goal.eval-returns-in-Var
 eval-returns-in-Var t c =
@@ -444,47 +298,6 @@ eval_all-returns t c =
     (evaluates_as plain_in known_in (Ok vs) s s (λ names. gives (plain_of_all names vs.items)) _ (λ names. front_over names vs.items)
     (evaluates_gives plain_in known_in vs s (λ names. plain_of_all names vs.items) inv.known (λ final later. refl))))
 
-pub linked-returns-in_err-right : goal.linked-returns-in_err-right
-linked-returns-in_err-right t c =
-    let s = state_of c.args.machine.now in
-    let s1 = state_of c.eval.new.machine in
-    let r = c.from_residual.result in
-    let op = c.args.op in
-    let tree = tree_of c.args.operand.now in
-    let v = c.args.left in
-    evaluates_as plain AllKnown r s s1 (λ names. eval s.parameters tree >>= link_rest op (plain names v)) (λ names. linked s.parameters op tree (plain names v)) (λ names. linked_as s.parameters op tree (plain names v))
-    (evaluates_exit plain AllKnown plain AllKnown r _ s s1 (λ names. eval s.parameters tree) (λ names. link_rest op (plain names v)) c.from_residual.ensures.1 c.in_err-right.ensures)
-
-pub linked-returns-in-Some : goal.linked-returns-in-Some
-linked-returns-in-Some t c =
-    let s = state_of c.args.machine.now in
-    let s1 = state_of c.eval.new.machine in
-    let s2 = state_of c.combine.new.self in
-    let r = c.combine.result in
-    let op = c.args.op in
-    let tree = tree_of c.args.operand.now in
-    let v = c.args.left in
-    let w = c.in_ok-right.right in
-    evaluates_as plain AllKnown r s s2 (λ names. eval s.parameters tree >>= link_rest op (plain names v)) (λ names. linked s.parameters op tree (plain names v)) (λ names. linked_as s.parameters op tree (plain names v))
-    (evaluates_then plain AllKnown plain AllKnown w r s s1 s2 (λ names. eval s.parameters tree) (λ names. link_rest op (plain names v)) c.in_ok-right.ensures
-    (evaluates_as plain AllKnown r s1 s2 (λ names. ask (combines c.in-Some.operator (plain names v) (plain names w))) (λ names. link_rest op (plain names v) (plain names w))
-    (λ names. rest_combines op c.in-Some.operator (plain names v) (plain names w) (sym c.in-Some.ensures)) c.combine.ensures))
-
-pub linked-returns : goal.linked-returns
-linked-returns t c =
-    let s = state_of c.args.machine.now in
-    let s1 = state_of c.eval.new.machine in
-    let r = c.truth_itself.result in
-    let op = c.args.op in
-    let tree = tree_of c.args.operand.now in
-    let v = c.args.left in
-    let w = c.in_ok-right.right in
-    let h = c.in_ok-right.ensures in
-    evaluates_as plain AllKnown r s s1 (λ names. eval s.parameters tree >>= link_rest op (plain names v)) (λ names. linked s.parameters op tree (plain names v)) (λ names. linked_as s.parameters op tree (plain names v))
-    (evaluates_then plain AllKnown plain AllKnown w r s s1 s1 (λ names. eval s.parameters tree) (λ names. link_rest op (plain names v)) h
-    (evaluates_as plain AllKnown r s1 s1 (λ names. decided (plain names w) (λ b. gives (plain names w))) (λ names. link_rest op (plain names v) (plain names w))
-    (λ names. rest_decides op (plain names v) (plain names w) (sym c.in-None.ensures)) (c.truth_itself.ensures s1 h.is_known)))
-
 pub chain-returns : goal.chain-returns
 chain-returns t c =
     let ps = (state_of c.args.machine.now).parameters in
@@ -566,51 +379,6 @@ chain-loop-op-preserved t c =
           (link_then ps s op tree ls v s1 s2 c.in_ok-value.value r inv.same
           (subst (λ b. Evaluates itself no_semigroup (Ok b) s s (λ names. ends_chain op (plain names v))) c.if-branch.false (c.in_ok-ends_chain.ensures s)) h g));
     }
-
-pub eval-returns-in_err-a-in-Span : goal.eval-returns-in_err-a-in-Span
-eval-returns-in_err-a-in-Span t c =
-    let s = state_of c.args.machine.now in
-    let s1 = state_of c.eval.new.machine in
-    let ps = s.parameters in
-    let low = tree_of c.deref-in-Span.result.now in
-    let high = tree_of c.in-Span.high.value in
-    let r = c.from_residual-in_err-a-in-Span.result in
-    let seen = ap tree_of c.in-Span.is ∙ (view-Span c.in-Span.low c.in-Span.high ∙ ap (λ x. span (tree_of x) high) (sym c.deref-in-Span.ensures)) in
-    subst (λ x. Evaluates plain AllKnown r s s1 (λ names. eval ps x)) (sym seen)
-    (evaluates_exit plain AllKnown plain AllKnown r _ s s1 (λ names. eval ps low) (λ names a. eval ps high >>= (λ b. ask (spans a b))) c.from_residual-in_err-a-in-Span.ensures.1 c.in_err-a-in-Span.ensures)
-
-pub eval-returns-in_err-b-in-Span : goal.eval-returns-in_err-b-in-Span
-eval-returns-in_err-b-in-Span t c =
-    let s = state_of c.args.machine.now in
-    let s1 = state_of c.eval.new.machine in
-    let s2 = state_of c.eval-in-Span.new.machine in
-    let ps = s.parameters in
-    let low = tree_of c.deref-in-Span.result.now in
-    let high = tree_of c.deref-in-Span-2.result.now in
-    let a = c.in_ok-a-in-Span.a in
-    let r = c.from_residual-in_err-b-in-Span.result in
-    let seen = ap tree_of c.in-Span.is ∙ (view-Span c.in-Span.low c.in-Span.high
-    ∙ (ap (λ x. span (tree_of x) (tree_of c.in-Span.high.value)) (sym c.deref-in-Span.ensures) ∙ ap (λ x. span low (tree_of x)) (sym c.deref-in-Span-2.ensures))) in
-    subst (λ x. Evaluates plain AllKnown r s s2 (λ names. eval ps x)) (sym seen)
-    (evaluates_on plain AllKnown plain AllKnown a r s s1 s2 (λ names. eval ps low) (λ qs names d. eval qs high >>= (λ b. ask (spans d b))) c.in_ok-a-in-Span.ensures
-    (evaluates_exit plain AllKnown plain AllKnown r _ s1 s2 (λ names. eval s1.parameters high) (λ names b. ask (spans (plain names a) b)) c.from_residual-in_err-b-in-Span.ensures.1 c.in_err-b-in-Span.ensures))
-
-pub eval-returns-in_ok-b-in-Span : goal.eval-returns-in_ok-b-in-Span
-eval-returns-in_ok-b-in-Span t c =
-    let s = state_of c.args.machine.now in
-    let s1 = state_of c.eval.new.machine in
-    let s2 = state_of c.eval-in-Span.new.machine in
-    let ps = s.parameters in
-    let low = tree_of c.deref-in-Span.result.now in
-    let high = tree_of c.deref-in-Span-2.result.now in
-    let a = c.in_ok-a-in-Span.a in
-    let b = c.in_ok-b-in-Span.b in
-    let r = c.span.result in
-    let seen = ap tree_of c.in-Span.is ∙ (view-Span c.in-Span.low c.in-Span.high
-    ∙ (ap (λ x. span (tree_of x) (tree_of c.in-Span.high.value)) (sym c.deref-in-Span.ensures) ∙ ap (λ x. span low (tree_of x)) (sym c.deref-in-Span-2.ensures))) in
-    subst (λ x. Evaluates plain AllKnown r s s2 (λ names. eval ps x)) (sym seen)
-    (evaluates_on plain AllKnown plain AllKnown a r s s1 s2 (λ names. eval ps low) (λ qs names d. eval qs high >>= (λ e. ask (spans d e))) c.in_ok-a-in-Span.ensures
-    (evaluates_then plain AllKnown plain AllKnown b r s1 s2 s2 (λ names. eval s1.parameters high) (λ names e. ask (spans (plain names a) e)) c.in_ok-b-in-Span.ensures (c.span.ensures s2)))
 
 pub argument-returns-in_err-eval-in-Plain : goal.argument-returns-in_err-eval-in-Plain
 argument-returns-in_err-eval-in-Plain t c =
@@ -1019,3 +787,219 @@ folded-returns t c =
     let over = λ (e : Plain). eval ((c.args.parameter.now, e) ∷ ps) (tree_of c.args.body.now) in
     inv.reached r s (subst (λ xs. Evaluates plain AllKnown r s s (λ names. fold_on c.args.fold over (plain_of_all names vs) (plain_of_all names xs))) (sym (drop_all c.loop-entry.entry-index c.args.entries.now c.loop-entry-test.false))
     (c.finished-2.ensures s inv.known))
+
+pub minus_of-returns-in_err-eval : goal.minus_of-returns-in_err-eval
+minus_of-returns-in_err-eval t c =
+    let s = state_of c.args.machine.now in
+    evaluates_exit plain AllKnown plain AllKnown c.from_residual.result _ s (state_of c.eval.new.machine) (λ names. eval s.parameters (tree_of c.args.operand.now)) (λ names. negated c.args.count) c.from_residual.ensures.1 c.in_err-eval.ensures
+
+pub minus_of-returns : goal.minus_of-returns
+minus_of-returns t c =
+    let s = state_of c.args.machine.now in
+    let s1 = state_of c.eval.new.machine in
+    let e = c.in_ok-eval.ensures in
+    evaluates_then plain AllKnown plain AllKnown c.in_ok-eval.field-0 c.negated.result s s1 s1 (λ names. eval s.parameters (tree_of c.args.operand.now)) (λ names. negated c.args.count) e (c.negated.ensures s1 e.is_known)
+
+pub not_of-returns-in_err-eval : goal.not_of-returns-in_err-eval
+not_of-returns-in_err-eval t c =
+    let s = state_of c.args.machine.now in
+    evaluates_exit plain AllKnown plain AllKnown c.from_residual.result _ s (state_of c.eval.new.machine) (λ names. eval s.parameters (tree_of c.args.operand.now)) (λ names d. decided d (λ b. gives (truth (turned c.args.count b)))) c.from_residual.ensures.1 c.in_err-eval.ensures
+
+pub not_of-returns : goal.not_of-returns
+not_of-returns t c =
+    let s = state_of c.args.machine.now in
+    let s1 = state_of c.eval.new.machine in
+    evaluates_then plain AllKnown plain AllKnown c.in_ok-eval.field-0 c.turned.result s s1 s1 (λ names. eval s.parameters (tree_of c.args.operand.now)) (λ names d. decided d (λ b. gives (truth (turned c.args.count b)))) c.in_ok-eval.ensures (c.turned.ensures s1)
+
+pub eval-returns-in-Minus : goal.eval-returns-in-Minus
+eval-returns-in-Minus t c =
+    let s = state_of c.args.machine.now in
+    let n = c.in-Minus.count in
+    let seen = ap tree_of c.in-Minus.is ∙ (view-Minus n c.in-Minus.operand ∙ ap (λ x. minus n (tree_of x)) (sym c.deref-in-Minus.ensures)) in
+    subst (λ x. Evaluates plain AllKnown c.minus_of.result s (state_of c.minus_of.new.machine) (λ names. eval s.parameters x)) (sym seen) c.minus_of.ensures
+
+pub eval-returns-in-Not : goal.eval-returns-in-Not
+eval-returns-in-Not t c =
+    let s = state_of c.args.machine.now in
+    let n = c.in-Not.count in
+    let seen = ap tree_of c.in-Not.is ∙ (view-Not n c.in-Not.operand ∙ ap (λ x. negation n (tree_of x)) (sym c.deref-in-Not.ensures)) in
+    subst (λ x. Evaluates plain AllKnown c.not_of.result s (state_of c.not_of.new.machine) (λ names. eval s.parameters x)) (sym seen) c.not_of.ensures
+
+pub linked-returns-in-Some : goal.linked-returns-in-Some
+linked-returns-in-Some t c =
+    let s = state_of c.args.machine.now in
+    let op = c.args.op in
+    let tree = tree_of c.args.operand.now in
+    let v = c.args.left in
+    evaluates_as plain AllKnown c.compared.result s (state_of c.compared.new.machine) (λ names. compared_with s.parameters c.in-Some.operator (plain names v) tree) (λ names. linked s.parameters op tree (plain names v))
+    (λ names. linked_combines s.parameters op c.in-Some.operator tree (plain names v) (sym c.in-Some.ensures)) c.compared.ensures
+
+pub linked-returns-in_err-eval-in-None : goal.linked-returns-in_err-eval-in-None
+linked-returns-in_err-eval-in-None t c =
+    let s = state_of c.args.machine.now in
+    let s1 = state_of c.eval.new.machine in
+    let r = c.from_residual.result in
+    let op = c.args.op in
+    let tree = tree_of c.args.operand.now in
+    let v = c.args.left in
+    evaluates_as plain AllKnown r s s1 (λ names. eval s.parameters tree >>= link_rest op (plain names v)) (λ names. linked s.parameters op tree (plain names v)) (λ names. linked_as s.parameters op tree (plain names v))
+    (evaluates_exit plain AllKnown plain AllKnown r _ s s1 (λ names. eval s.parameters tree) (λ names. link_rest op (plain names v)) c.from_residual.ensures.1 c.in_err-eval-in-None.ensures)
+
+pub linked-returns-in_ok-eval-in-None : goal.linked-returns-in_ok-eval-in-None
+linked-returns-in_ok-eval-in-None t c =
+    let s = state_of c.args.machine.now in
+    let s1 = state_of c.eval.new.machine in
+    let r = c.truth_itself.result in
+    let op = c.args.op in
+    let tree = tree_of c.args.operand.now in
+    let v = c.args.left in
+    let w = c.in_ok-eval-in-None.field-0 in
+    let h = c.in_ok-eval-in-None.ensures in
+    evaluates_as plain AllKnown r s s1 (λ names. eval s.parameters tree >>= link_rest op (plain names v)) (λ names. linked s.parameters op tree (plain names v)) (λ names. linked_as s.parameters op tree (plain names v))
+    (evaluates_then plain AllKnown plain AllKnown w r s s1 s1 (λ names. eval s.parameters tree) (λ names. link_rest op (plain names v)) h
+    (evaluates_as plain AllKnown r s1 s1 (λ names. decided (plain names w) (λ b. gives (plain names w))) (λ names. link_rest op (plain names v) (plain names w))
+    (λ names. rest_decides op (plain names v) (plain names w) (sym c.in-None.ensures)) (c.truth_itself.ensures s1 h.is_known)))
+
+pub eval-returns-in_err-value-in-Item : goal.eval-returns-in_err-value-in-Item
+eval-returns-in_err-value-in-Item t c =
+    let s = state_of c.args.machine.now in
+    let ps = s.parameters in
+    let list = tree_of c.deref-in-Item-2.result.now in
+    let places = trees_of c.in-Item.places.items in
+    let r = c.from_residual-in_err-value-in-Item.result in
+    let seen = ap tree_of c.in-Item.is ∙ (view-Item c.in-Item.list c.in-Item.places ∙ ap (λ x. item (tree_of x) places) (sym c.deref-in-Item-2.ensures)) in
+    subst (λ x. Evaluates plain AllKnown r s (state_of c.eval-in-Item.new.machine) (λ names. eval ps x)) (sym seen)
+    (evaluates_exit plain AllKnown plain AllKnown r _ s (state_of c.eval-in-Item.new.machine) (λ names. eval ps list) (λ names d. eval_places ps d places) c.from_residual-in_err-value-in-Item.ensures.1 c.in_err-value-in-Item.ensures)
+
+pub eval-returns-in_ok-value-in-Item : goal.eval-returns-in_ok-value-in-Item
+eval-returns-in_ok-value-in-Item t c =
+    let s = state_of c.args.machine.now in
+    let s1 = state_of c.eval-in-Item.new.machine in
+    let s2 = state_of c.item.new.machine in
+    let ps = s.parameters in
+    let list = tree_of c.deref-in-Item-2.result.now in
+    let places = trees_of c.deref-in-Item-3.result.now in
+    let r = c.item.result in
+    let seen = ap tree_of c.in-Item.is ∙ (view-Item c.in-Item.list c.in-Item.places
+    ∙ (ap (λ x. item (tree_of x) (trees_of c.in-Item.places.items)) (sym c.deref-in-Item-2.ensures) ∙ ap (λ xs. item list (trees_of xs)) (sym c.deref-in-Item-3.ensures.value))) in
+    subst (λ x. Evaluates plain AllKnown r s s2 (λ names. eval ps x)) (sym seen)
+    (evaluates_on plain AllKnown plain AllKnown c.in_ok-value-in-Item.value r s s1 s2 (λ names. eval ps list) (λ qs names d. eval_places qs d places) c.in_ok-value-in-Item.ensures c.item.ensures)
+
+pub eval-returns-in_err-value-in-Chain : goal.eval-returns-in_err-value-in-Chain
+eval-returns-in_err-value-in-Chain t c =
+    let s = state_of c.args.machine.now in
+    let s1 = state_of c.operand_of.new.machine in
+    let ps = s.parameters in
+    let first = tree_of c.deref-in-Chain.result.now in
+    let ls = links_of c.in-Chain.links.items in
+    let r = c.from_residual-in_err-value-in-Chain.result in
+    let seen = ap tree_of c.in-Chain.is ∙ (view-Chain c.in-Chain.first c.in-Chain.links ∙ ap (λ x. chain (tree_of x) ls) (sym c.deref-in-Chain.ensures)) in
+    subst (λ x. Evaluates plain AllKnown r s s1 (λ names. eval ps x)) (sym seen)
+    (evaluates_exit plain AllKnown plain AllKnown r _ s s1 (λ names. eval ps first) (λ names d. eval_links ps d ls) c.from_residual-in_err-value-in-Chain.ensures.1 c.in_err-value-in-Chain.ensures)
+
+pub eval-returns-in_ok-value-in-Chain : goal.eval-returns-in_ok-value-in-Chain
+eval-returns-in_ok-value-in-Chain t c =
+    let s = state_of c.args.machine.now in
+    let s1 = state_of c.operand_of.new.machine in
+    let s2 = state_of c.chain.new.machine in
+    let ps = s.parameters in
+    let first = tree_of c.deref-in-Chain.result.now in
+    let ls = links_of c.deref-in-Chain-2.result.now in
+    let r = c.chain.result in
+    let seen = ap tree_of c.in-Chain.is ∙ (view-Chain c.in-Chain.first c.in-Chain.links
+    ∙ (ap (λ x. chain (tree_of x) (links_of c.in-Chain.links.items)) (sym c.deref-in-Chain.ensures) ∙ ap (λ xs. chain first (links_of xs)) (sym c.deref-in-Chain-2.ensures.value))) in
+    subst (λ x. Evaluates plain AllKnown r s s2 (λ names. eval ps x)) (sym seen)
+    (evaluates_on plain AllKnown plain AllKnown c.in_ok-value-in-Chain.value r s s1 s2 (λ names. eval ps first) (λ qs names d. eval_links qs d ls) c.in_ok-value-in-Chain.ensures c.chain.ensures)
+
+pub eval-returns-in_err-a-in-Compare : goal.eval-returns-in_err-a-in-Compare
+eval-returns-in_err-a-in-Compare t c =
+    let s = state_of c.args.machine.now in
+    let s1 = state_of c.operand_of-in-Compare.new.machine in
+    let ps = s.parameters in
+    let rel = c.in-Compare.relation in
+    let left = tree_of c.deref-in-Compare.result.now in
+    let right = tree_of c.in-Compare.right.value in
+    let r = c.from_residual-in_err-a-in-Compare.result in
+    let seen = ap tree_of c.in-Compare.is ∙ (view-Compare rel c.in-Compare.left c.in-Compare.right ∙ ap (λ x. compare rel (tree_of x) right) (sym c.deref-in-Compare.ensures)) in
+    subst (λ x. Evaluates plain AllKnown r s s1 (λ names. eval ps x)) (sym seen)
+    (evaluates_exit plain AllKnown plain AllKnown r _ s s1 (λ names. eval ps left) (λ names a. eval ps right >>= (λ b. ask (combines (relation rel) a b))) c.from_residual-in_err-a-in-Compare.ensures.1 c.in_err-a-in-Compare.ensures)
+
+pub eval-returns-in_ok-a-in-Compare : goal.eval-returns-in_ok-a-in-Compare
+eval-returns-in_ok-a-in-Compare t c =
+    let s = state_of c.args.machine.now in
+    let s1 = state_of c.operand_of-in-Compare.new.machine in
+    let s2 = state_of c.compared.new.machine in
+    let ps = s.parameters in
+    let rel = c.in-Compare.relation in
+    let left = tree_of c.deref-in-Compare.result.now in
+    let right = tree_of c.deref-in-Compare-2.result.now in
+    let a = c.in_ok-a-in-Compare.a in
+    let r = c.compared.result in
+    let seen = ap tree_of c.in-Compare.is ∙ (view-Compare rel c.in-Compare.left c.in-Compare.right
+    ∙ (ap (λ x. compare rel (tree_of x) (tree_of c.in-Compare.right.value)) (sym c.deref-in-Compare.ensures) ∙ ap (λ x. compare rel left (tree_of x)) (sym c.deref-in-Compare-2.ensures))) in
+    subst (λ x. Evaluates plain AllKnown r s s2 (λ names. eval ps x)) (sym seen)
+    (evaluates_on plain AllKnown plain AllKnown a r s s1 s2 (λ names. eval ps left) (λ qs names d. compared_with qs (relation rel) d right) c.in_ok-a-in-Compare.ensures
+    (subst (λ op. Evaluates plain AllKnown r s1 s2 (λ names. compared_with s1.parameters op (plain names a) right)) c.relation_of.ensures c.compared.ensures))
+
+pub eval-returns-in-Var-deref : goal.eval-returns-in-Var-deref
+eval-returns-in-Var-deref t c =
+    let s = state_of c.args.machine.now in
+    let s1 = state_of c.named_item.new.machine in
+    let r = c.named_item.result in
+    let x = c.in-Var-deref.name in
+    let listed = ap tree_of (sym c.deref-in-Item.ensures ∙ c.in-Var-deref.is) ∙ view-Var x in
+    let seen = ap tree_of c.in-Item.is ∙ (view-Item c.in-Item.list c.in-Item.places
+    ∙ (ap (λ y. item y (trees_of c.in-Item.places.items)) listed
+    ∙ (ap (λ y. item (variable y) (trees_of c.in-Item.places.items)) (sym c.as_slice-in-Var-deref.ensures) ∙ ap (λ xs. item (variable c.as_slice-in-Var-deref.result.now) (trees_of xs)) (sym c.deref-in-Var-deref.ensures.value)))) in
+    subst (λ y. Evaluates plain AllKnown r s s1 (λ names. eval s.parameters y)) (sym seen) c.named_item.ensures
+
+pub eval-returns-in_err-a-in-Span : goal.eval-returns-in_err-a-in-Span
+eval-returns-in_err-a-in-Span t c =
+    let s = state_of c.args.machine.now in
+    let s1 = state_of c.eval.new.machine in
+    let ps = s.parameters in
+    let low = tree_of c.deref-in-Span.result.now in
+    let high = tree_of c.in-Span.high.value in
+    let r = c.from_residual-in_err-a-in-Span.result in
+    let seen = ap tree_of c.in-Span.is ∙ (view-Span c.in-Span.low c.in-Span.high ∙ ap (λ x. span (tree_of x) high) (sym c.deref-in-Span.ensures)) in
+    subst (λ x. Evaluates plain AllKnown r s s1 (λ names. eval ps x)) (sym seen)
+    (evaluates_exit plain AllKnown plain AllKnown r _ s s1 (λ names. eval ps low) (λ names a. eval ps high >>= (λ b. ask (spans a b))) c.from_residual-in_err-a-in-Span.ensures.1 c.in_err-a-in-Span.ensures)
+
+pub eval-returns-in_err-b-in-Span : goal.eval-returns-in_err-b-in-Span
+eval-returns-in_err-b-in-Span t c =
+    let s = state_of c.args.machine.now in
+    let s1 = state_of c.eval.new.machine in
+    let s2 = state_of c.eval-in-Span.new.machine in
+    let ps = s.parameters in
+    let low = tree_of c.deref-in-Span.result.now in
+    let high = tree_of c.deref-in-Span-2.result.now in
+    let a = c.in_ok-a-in-Span.a in
+    let r = c.from_residual-in_err-b-in-Span.result in
+    let seen = ap tree_of c.in-Span.is ∙ (view-Span c.in-Span.low c.in-Span.high
+    ∙ (ap (λ x. span (tree_of x) (tree_of c.in-Span.high.value)) (sym c.deref-in-Span.ensures) ∙ ap (λ x. span low (tree_of x)) (sym c.deref-in-Span-2.ensures))) in
+    subst (λ x. Evaluates plain AllKnown r s s2 (λ names. eval ps x)) (sym seen)
+    (evaluates_on plain AllKnown plain AllKnown a r s s1 s2 (λ names. eval ps low) (λ qs names d. eval qs high >>= (λ b. ask (spans d b))) c.in_ok-a-in-Span.ensures
+    (evaluates_exit plain AllKnown plain AllKnown r _ s1 s2 (λ names. eval s1.parameters high) (λ names b. ask (spans (plain names a) b)) c.from_residual-in_err-b-in-Span.ensures.1 c.in_err-b-in-Span.ensures))
+
+pub eval-returns-in_ok-b-in-Span : goal.eval-returns-in_ok-b-in-Span
+eval-returns-in_ok-b-in-Span t c =
+    let s = state_of c.args.machine.now in
+    let s1 = state_of c.eval.new.machine in
+    let s2 = state_of c.eval-in-Span.new.machine in
+    let ps = s.parameters in
+    let low = tree_of c.deref-in-Span.result.now in
+    let high = tree_of c.deref-in-Span-2.result.now in
+    let a = c.in_ok-a-in-Span.a in
+    let b = c.in_ok-b-in-Span.b in
+    let r = c.span.result in
+    let seen = ap tree_of c.in-Span.is ∙ (view-Span c.in-Span.low c.in-Span.high
+    ∙ (ap (λ x. span (tree_of x) (tree_of c.in-Span.high.value)) (sym c.deref-in-Span.ensures) ∙ ap (λ x. span low (tree_of x)) (sym c.deref-in-Span-2.ensures))) in
+    subst (λ x. Evaluates plain AllKnown r s s2 (λ names. eval ps x)) (sym seen)
+    (evaluates_on plain AllKnown plain AllKnown a r s s1 s2 (λ names. eval ps low) (λ qs names d. eval qs high >>= (λ e. ask (spans d e))) c.in_ok-a-in-Span.ensures
+    (evaluates_then plain AllKnown plain AllKnown b r s1 s2 s2 (λ names. eval s1.parameters high) (λ names e. ask (spans (plain names a) e)) c.in_ok-b-in-Span.ensures (c.span.ensures s2)))
+
+pub operand_of-returns-in-Var : goal.operand_of-returns-in-Var
+operand_of-returns-in-Var t c =
+    let s = state_of c.args.machine.now in
+    let seen = ap tree_of c.in-Var.is ∙ (view-Var c.in-Var.name ∙ ap variable (sym c.as_slice.ensures)) in
+    subst (λ x. Evaluates plain AllKnown c.named.result s s (λ names. eval s.parameters x)) (sym seen) c.named.ensures

@@ -3,15 +3,25 @@ use Rattle.sg_value.specs.Known.{named}
 use Rattle.sg_eval.specs.State.{values_of, AreKnownIn}
 use Rattle.sg_eval.specs.Vars.{with_value}
 use Rattle.sg_value.specs.Plain.{plain}
-use Rattle.sg_eval.proofs.Named.{values-set, values-insert, known-set, known-insert}
+use Rattle.sg_eval.proofs.Named.{values-set, values-insert, values-set_at, known-set, known-insert, known-set_at}
 use Rattle.sg_eval.proofs.variables.set.Goals as goal
 
 pub returns-in-Some-clause-ok : goal.returns-in-Some-clause-ok
 returns-in-Some-clause-ok c = λ names.
-    ap (values_of names) (c.get_mut.follows.holds c.args.value).0 ∙ values-set names c.args.name.now c.args.variables.now.entries _ c.args.value c.in-Some.ensures.value
+    let e = c.in-Some.ensures.named in
+    values-set_at names c.args.name.now c.args.variables.now.entries c.in-Some.place e.0 c.args.value c.get_index_mut.ensures.unique e.1 e.2
 
 pub returns-in-Some-clause-known : goal.returns-in-Some-clause-known
 returns-in-Some-clause-known c = λ names all h.
+    let e = c.in-Some.ensures.named in
+    known-set_at names c.args.variables.now.entries c.in-Some.place e.0 c.args.value c.get_index_mut.ensures.unique e.1 all h
+
+pub returns-in-Some-get_mut-clause-ok : goal.returns-in-Some-get_mut-clause-ok
+returns-in-Some-get_mut-clause-ok c = λ names.
+    ap (values_of names) (c.get_mut.follows.holds c.args.value).0 ∙ values-set names c.args.name.now c.args.variables.now.entries _ c.args.value c.in-Some-get_mut.ensures.value
+
+pub returns-in-Some-get_mut-clause-known : goal.returns-in-Some-get_mut-clause-known
+returns-in-Some-get_mut-clause-known c = λ names all h.
     subst (AreKnownIn names) (sym (c.get_mut.follows.holds c.args.value).0) (known-set names c.args.name.now c.args.variables.now.entries c.args.value all h)
 
 pub returns-clause-ok : goal.returns-clause-ok
