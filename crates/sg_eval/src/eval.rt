@@ -64,6 +64,7 @@ pub fn eval(alloc: Global, machine: &mut Machine, e: &Expr) -> Result<Value, Cal
 }
 
 /// The value of an operand. An integer and a name, which most operands are, need no call of `eval`.
+#[inline(always)]
 #[cycle(eval)]
 fn operand_of(alloc: Global, machine: &mut Machine, e: &Expr) -> Result<Value, CallFault>
     ensures { Evaluates plain AllKnown result (state_of machine.old) (state_of machine.new) (λ names. meaning (state_of machine.old).parameters (tree_of e.now)) }
@@ -231,6 +232,7 @@ fn next_item(
 }
 
 /// What an operator gives of a value and that of an expression. The value of a name is not copied.
+#[inline(always)]
 #[cycle(eval)]
 fn compared(
     alloc: Global,
@@ -286,6 +288,7 @@ fn chain(
 }
 
 /// The value after one link.
+#[inline(always)]
 #[cycle(eval)]
 fn linked(
     alloc: Global,
