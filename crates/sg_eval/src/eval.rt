@@ -58,12 +58,13 @@ pub fn eval(alloc: Global, machine: &mut Machine, e: &Expr) -> Result<Value, Cal
         }
         Expr::Compare(relation, left, right) => {
             let a = operand_of(alloc, machine, left)?;
-            compared(alloc, machine, right, relation_of(*relation), a)
+            compared(alloc, machine, right, relation_of(*relation), &a)
         }
     }
 }
 
 /// The value of an operand. An integer and a name, which most operands are, need no call of `eval`.
+#[inline(always)]
 #[cycle(eval)]
 fn operand_of(alloc: Global, machine: &mut Machine, e: &Expr) -> Result<Value, CallFault>
     ensures { Evaluates plain AllKnown result (state_of machine.old) (state_of machine.new) (λ names. meaning (state_of machine.old).parameters (tree_of e.now)) }
@@ -231,22 +232,23 @@ fn next_item(
 }
 
 /// What an operator gives of a value and that of an expression. The value of a name is not copied.
+#[inline(always)]
 #[cycle(eval)]
 fn compared(
     alloc: Global,
     machine: &mut Machine,
     right: &Expr,
     op: Operator,
-    left: Value,
+    left: &Value,
 ) -> Result<Value, CallFault>
-    requires { AllKnown (named (state_of machine.old).names) left }
-    ensures { Evaluates plain AllKnown result (state_of machine.old) (state_of machine.new) (λ names. compared_with (state_of machine.old).parameters op (plain names left) (tree_of right.now)) }
+    requires { AllKnown (named (state_of machine.old).names) left.now }
+    ensures { Evaluates plain AllKnown result (state_of machine.old) (state_of machine.new) (λ names. compared_with (state_of machine.old).parameters op (plain names left.now) (tree_of right.now)) }
 {
     if let Expr::Var(name) = right {
-        return machine.combine_named(alloc, op, &left, name.as_slice());
+        return machine.combine_named(alloc, op, left, name.as_slice());
     }
     let b = operand_of(alloc, machine, right)?;
-    machine.combine(alloc, op, &left, &b)
+    machine.combine(alloc, op, left, &b)
 }
 
 /// The entry at the place that an expression gives.
@@ -280,22 +282,23 @@ fn chain(
         if ends_chain(*op, &value)? {
             return Ok(value);
         }
-        value = linked(alloc, machine, operand, *op, value)?;
+        value = linked(alloc, machine, operand, *op, &value)?;
     }
     Ok(value)
 }
 
 /// The value after one link.
+#[inline(always)]
 #[cycle(eval)]
 fn linked(
     alloc: Global,
     machine: &mut Machine,
     operand: &Expr,
     op: Op,
-    left: Value,
+    left: &Value,
 ) -> Result<Value, CallFault>
-    requires { AllKnown (named (state_of machine.old).names) left }
-    ensures { Evaluates plain AllKnown result (state_of machine.old) (state_of machine.new) (λ names. linked_meaning (state_of machine.old).parameters op (tree_of operand.now) (plain names left)) }
+    requires { AllKnown (named (state_of machine.old).names) left.now }
+    ensures { Evaluates plain AllKnown result (state_of machine.old) (state_of machine.new) (λ names. linked_meaning (state_of machine.old).parameters op (tree_of operand.now) (plain names left.now)) }
 {
     match operator_of(op) {
         Some(operator) => compared(alloc, machine, operand, operator, left),

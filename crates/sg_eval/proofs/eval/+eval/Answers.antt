@@ -64,21 +64,21 @@ pub compared-returns-in-Var : goal.compared-returns-in-Var
 compared-returns-in-Var t c =
     let s = state_of c.args.machine.now in
     let seen = ap tree_of c.in-Var.is ∙ (view-Var c.in-Var.name ∙ ap variable (sym c.as_slice.ensures)) in
-    subst (λ x. Evaluates plain AllKnown c.combine_named.result s (state_of c.combine_named.new.self) (λ names. compared_with s.parameters c.args.op (plain names c.args.left) x)) (sym seen) c.combine_named.ensures
+    subst (λ x. Evaluates plain AllKnown c.combine_named.result s (state_of c.combine_named.new.self) (λ names. compared_with s.parameters c.args.op (plain names c.args.left.now) x)) (sym seen) c.combine_named.ensures
 
 pub compared-returns-in_err-b : goal.compared-returns-in_err-b
 compared-returns-in_err-b t c =
     let s = state_of c.args.machine.now in
-    evaluates_exit plain AllKnown plain AllKnown c.from_residual.result _ s (state_of c.operand_of.new.machine) (λ names. eval s.parameters (tree_of c.args.right.now)) (λ names b. ask (combines c.args.op (plain names c.args.left) b)) c.from_residual.ensures.1 c.in_err-b.ensures
+    evaluates_exit plain AllKnown plain AllKnown c.from_residual.result _ s (state_of c.operand_of.new.machine) (λ names. eval s.parameters (tree_of c.args.right.now)) (λ names b. ask (combines c.args.op (plain names c.args.left.now) b)) c.from_residual.ensures.1 c.in_err-b.ensures
 
 pub compared-combine-requires-clause-left : goal.compared-combine-requires-clause-left
-compared-combine-requires-clause-left t c = known_later c.args.machine.now.store c.operand_of.new.machine.store c.args.left c.in_ok-b.ensures.keeps c.requires
+compared-combine-requires-clause-left t c = known_later c.args.machine.now.store c.operand_of.new.machine.store c.args.left.now c.in_ok-b.ensures.keeps c.requires
 
 pub compared-returns : goal.compared-returns
 compared-returns t c =
     let s = state_of c.args.machine.now in
     let s1 = state_of c.operand_of.new.machine in
-    evaluates_then plain AllKnown plain AllKnown c.in_ok-b.b c.combine.result s s1 (state_of c.combine.new.self) (λ names. eval s.parameters (tree_of c.args.right.now)) (λ names b. ask (combines c.args.op (plain names c.args.left) b)) c.in_ok-b.ensures c.combine.ensures
+    evaluates_then plain AllKnown plain AllKnown c.in_ok-b.b c.combine.result s s1 (state_of c.combine.new.self) (λ names. eval s.parameters (tree_of c.args.right.now)) (λ names b. ask (combines c.args.op (plain names c.args.left.now) b)) c.in_ok-b.ensures c.combine.ensures
 
 pub next_item-returns-in-Some : goal.next_item-returns-in-Some
 next_item-returns-in-Some t c =
@@ -830,7 +830,7 @@ linked-returns-in-Some t c =
     let s = state_of c.args.machine.now in
     let op = c.args.op in
     let tree = tree_of c.args.operand.now in
-    let v = c.args.left in
+    let v = c.args.left.now in
     evaluates_as plain AllKnown c.compared.result s (state_of c.compared.new.machine) (λ names. compared_with s.parameters c.in-Some.operator (plain names v) tree) (λ names. linked s.parameters op tree (plain names v))
     (λ names. linked_combines s.parameters op c.in-Some.operator tree (plain names v) (sym c.in-Some.ensures)) c.compared.ensures
 
@@ -841,7 +841,7 @@ linked-returns-in_err-eval-in-None t c =
     let r = c.from_residual.result in
     let op = c.args.op in
     let tree = tree_of c.args.operand.now in
-    let v = c.args.left in
+    let v = c.args.left.now in
     evaluates_as plain AllKnown r s s1 (λ names. eval s.parameters tree >>= link_rest op (plain names v)) (λ names. linked s.parameters op tree (plain names v)) (λ names. linked_as s.parameters op tree (plain names v))
     (evaluates_exit plain AllKnown plain AllKnown r _ s s1 (λ names. eval s.parameters tree) (λ names. link_rest op (plain names v)) c.from_residual.ensures.1 c.in_err-eval-in-None.ensures)
 
@@ -852,7 +852,7 @@ linked-returns-in_ok-eval-in-None t c =
     let r = c.truth_itself.result in
     let op = c.args.op in
     let tree = tree_of c.args.operand.now in
-    let v = c.args.left in
+    let v = c.args.left.now in
     let w = c.in_ok-eval-in-None.field-0 in
     let h = c.in_ok-eval-in-None.ensures in
     evaluates_as plain AllKnown r s s1 (λ names. eval s.parameters tree >>= link_rest op (plain names v)) (λ names. linked s.parameters op tree (plain names v)) (λ names. linked_as s.parameters op tree (plain names v))
