@@ -124,7 +124,7 @@ fn quotient_list(alloc: Global, apery: &[u64], d: u64) -> Result<Vec<u64>, Alloc
 }
 
 /// The numbers whose product with `d` is a member, which are a numerical semigroup (Rosales and Garcia-Sanchez,
-/// Numerical Semigroups, 2009, section 5.2).
+/// Numerical Semigroups, 2009).
 ///
 /// BadArgument where `d` is 0; then TooLarge where the semigroup is past the limits.
 pub fn quotient(alloc: Global, a: &Table, d: u64) -> Result<Table, TableFault>

@@ -98,7 +98,7 @@ fn divisors(alloc: Global, list: &[u64]) -> Result<Vec<u64>, AllocError>
 
 impl Table {
     /// The numerical semigroup of the naturals that divide none of the given ones, in any order and with repeats. Its
-    /// fundamental gaps are among them (Rosales and Garcia-Sanchez, Numerical Semigroups, 2009, section 3.3).
+    /// fundamental gaps are among them (Rosales and Garcia-Sanchez, Numerical Semigroups, 2009).
     ///
     /// TooLarge where a number passes `FUNDAMENTAL_GAP_LIMIT`; then BadArgument where those naturals are no numerical
     /// semigroup, as where a number is 0; then TooLarge where the semigroup is past the limits.

@@ -146,7 +146,7 @@ pub fn from_kunz(alloc: Global, list: &[u64]) -> Result<Table, TableFault>
 impl Table {
     /// The numerical semigroup that has this Apery list modulo the number of its entries: its members are the numbers
     /// that are at least the entry of their residue class. The list is one exactly where it meets Kunz's conditions
-    /// (Rosales and Garcia-Sanchez, Numerical Semigroups, 2009, section 1.2).
+    /// (Rosales and Garcia-Sanchez, Numerical Semigroups, 2009).
     ///
     /// BadArgument where it does not; then TooLarge where the semigroup is past the limits.
     pub fn from_apery(alloc: Global, list: &[u64]) -> Result<Table, TableFault>

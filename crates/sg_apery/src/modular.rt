@@ -42,7 +42,7 @@ fn members_up_to(alloc: Global, a: u64, b: u64, c: u64) -> Result<Vec<u64>, Allo
 
 impl Table {
     /// The numbers `x` with `a x mod b <= x`, which are a numerical semigroup (Rosales and Garcia-Sanchez, Numerical
-    /// Semigroups, 2009, section 4.1).
+    /// Semigroups, 2009).
     ///
     /// TooLarge where `b` passes `MODULUS_LIMIT`; then BadArgument where `a` or `b` is 0; then TooLarge where the
     /// semigroup is past the limits.
@@ -55,7 +55,7 @@ impl Table {
     }
 
     /// The numbers `x` with `a x mod b <= c x`, which are a numerical semigroup (Rosales and Garcia-Sanchez, Numerical
-    /// Semigroups, 2009, section 4.1).
+    /// Semigroups, 2009).
     ///
     /// TooLarge where `b` passes `MODULUS_LIMIT`; then BadArgument where `a`, `b` or `c` is 0; then TooLarge where the
     /// semigroup is past the limits.

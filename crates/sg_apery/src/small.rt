@@ -190,7 +190,7 @@ pub fn has_zero(list: &[u64]) -> bool
 
 impl Table {
     /// The numerical semigroup of the given numbers and of all naturals above the greatest, in any order and with
-    /// repeats (Rosales and Garcia-Sanchez, Numerical Semigroups, 2009, section 1.2).
+    /// repeats (Rosales and Garcia-Sanchez, Numerical Semigroups, 2009).
     ///
     /// BadArgument where none is given, 0 is not, or that set is not closed under sums; then TooLarge where the
     /// semigroup is past the limits.

@@ -12,8 +12,7 @@ use sg_nat::Nats;
 use std::marker::Model;
 
 /// The minimal generators of a numerical semigroup, and its Apery list modulo the multiplicity: the least member in
-/// each residue class. Contracts see the minimal generators (Rosales and Garcia-Sanchez, Numerical Semigroups, 2009,
-/// sections 1.2 and 1.3).
+/// each residue class. Contracts see the minimal generators (Rosales and Garcia-Sanchez, Numerical Semigroups, 2009).
 #[derive(Drop)]
 pub struct Table {
     generators: Nats,

@@ -14,9 +14,7 @@ use crate::command::{Command, command_named};
 use crate::ideal_facts::{self, in_both};
 use crate::{list_facts, list_makers, semigroup_facts, shape_facts};
 use sg_lists::{concatenation_of, gcd_of, lcm_of};
-use sg_makers::{
-    modular_of, numerical_semigroup_of, proportional_of, quotient_of,
-};
+use sg_makers::{modular_of, numerical_semigroup_of, proportional_of, quotient_of};
 use sg_relative::ideal_of_list;
 use sg_rows::{CallFault, Fault};
 use sg_store::Store;

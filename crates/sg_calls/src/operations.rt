@@ -137,10 +137,8 @@ pub fn combine(
         Operator::Plus => plus(alloc, store, a, b),
         Operator::Less => less(alloc, store, a, b),
         Operator::Times => times(alloc, store, a, b),
-        Operator::Mod
-        | Operator::Lt
-        | Operator::Le
-        | Operator::Gt
-        | Operator::Ge => on_integers(op, a, b),
+        Operator::Mod | Operator::Lt | Operator::Le | Operator::Gt | Operator::Ge => on_integers(
+            op, a, b,
+        ),
     }
 }

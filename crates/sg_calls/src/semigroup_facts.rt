@@ -9,8 +9,7 @@ ghost use Rattle.sg_calls.specs.SemigroupFacts.{fact_of};
 
 use sg_facts::{
     conductor_of, embedding_dimension_of, frobenius_number_of, fundamental_gaps_of, gaps_of,
-    genus_of, multiplicity_of, pseudo_frobenius_of, small_elements_of,
-    special_gaps_of, type_of,
+    genus_of, multiplicity_of, pseudo_frobenius_of, small_elements_of, special_gaps_of, type_of,
 };
 use sg_rows::CallFault;
 use sg_store::Store;

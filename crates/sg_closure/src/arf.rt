@@ -33,7 +33,7 @@ fn mark_steps(marks: &mut [bool])
 
 /// The least Arf numerical semigroup that holds all of the given one, in time that grows with the span: 0 together with
 /// the multiplicity and the Arf closure of the semigroup that the multiplicity and its differences with the other
-/// generators generate (Rosales and Garcia-Sanchez, Numerical Semigroups, 2009, section 3.2).
+/// generators generate (Rosales and Garcia-Sanchez, Numerical Semigroups, 2009).
 pub fn arf_closure(alloc: Global, table: &Table) -> Result<Table, AllocError>
     requires { IsShort table.now }
     ensures { IfOk result (λ closure. IsArfClosure table.now closure) }

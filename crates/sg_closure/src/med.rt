@@ -90,7 +90,7 @@ fn shifted_marks(alloc: Global, table: &Table, differences: &Table) -> Result<Ve
 
 /// The least numerical semigroup of maximal embedding dimension among those of the same multiplicity that hold all of
 /// the given one: 0 together with the multiplicity and the semigroup that the multiplicity and its differences with the
-/// other generators generate (Rosales and Garcia-Sanchez, Numerical Semigroups, 2009, section 3.1).
+/// other generators generate (Rosales and Garcia-Sanchez, Numerical Semigroups, 2009).
 pub fn med_closure(alloc: Global, table: &Table) -> Result<Table, AllocError>
     requires { IsShort table.now }
     ensures { IfOk result (λ closure. IsMedClosure table.now closure) }

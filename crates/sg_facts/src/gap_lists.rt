@@ -31,7 +31,7 @@ fn gaps_within(alloc: Global, table: &Table) -> Result<Value, CallFault>
     natural_list(alloc, gaps(alloc, table)?.as_slice())
 }
 
-/// The gaps, ascending: the naturals that are no members (Rosales and Garcia-Sanchez, section 1.2). A value that is no
+/// The gaps, ascending: the naturals that are no members (Rosales and Garcia-Sanchez). A value that is no
 /// semigroup is WrongType; a span past the limit, or a list past the limit of weights, is TooLarge.
 pub fn gaps_of(alloc: Global, store: &mut Store, s: &Value) -> Result<Value, CallFault>
     requires { AllKnown (named store.old) s.now }
@@ -58,7 +58,7 @@ fn small_elements_within(alloc: Global, table: &Table) -> Result<Value, CallFaul
     natural_list(alloc, small_elements(alloc, table)?.as_slice())
 }
 
-/// The small elements, ascending: the members up to the conductor (Rosales and Garcia-Sanchez, section 2.3). A value that is no
+/// The small elements, ascending: the members up to the conductor (Rosales and Garcia-Sanchez). A value that is no
 /// semigroup is WrongType; a span past the limit, or a list past the limit of weights, is TooLarge.
 pub fn small_elements_of(alloc: Global, store: &mut Store, s: &Value) -> Result<Value, CallFault>
     requires { AllKnown (named store.old) s.now }
@@ -82,8 +82,8 @@ fn fundamental_gaps_within(alloc: Global, table: &Table) -> Result<Value, CallFa
     natural_list(alloc, fundamental_gaps(alloc, table)?.as_slice())
 }
 
-/// The fundamental gaps, ascending: those each of whose proper multiples is a member (Rosales and Garcia-Sanchez,
-/// section 4.1). A value that is no
+/// The fundamental gaps, ascending: those each of whose proper multiples is a member (Rosales and Garcia-Sanchez).
+/// A value that is no
 /// semigroup is WrongType; a span past the limit, or a list past the limit of weights, is TooLarge.
 pub fn fundamental_gaps_of(alloc: Global, store: &mut Store, s: &Value) -> Result<Value, CallFault>
     requires { AllKnown (named store.old) s.now }

@@ -12,7 +12,7 @@ use sg_store::Store;
 use sg_value::Value;
 use std::alloc::Global;
 
-/// The minimal generators, ascending (Rosales and Garcia-Sanchez, section 1.2). A value that is no semigroup is WrongType.
+/// The minimal generators, ascending (Rosales and Garcia-Sanchez). A value that is no semigroup is WrongType.
 pub fn minimal_generators_of(alloc: Global, store: &Store, s: &Value) -> Result<Value, CallFault>
     requires { AllKnown (named store.now) s.now }
     ensures { Replies result store.now (minimal_generators_of (plain (named store.now) s.now)) }
@@ -23,8 +23,8 @@ pub fn minimal_generators_of(alloc: Global, store: &Store, s: &Value) -> Result<
     natural_list(alloc, store.generators(id).as_slice())
 }
 
-/// The Apery list modulo the multiplicity: entry `i` is the least member congruent to `i` (Rosales and Garcia-Sanchez,
-/// section 1.2). A value that is no semigroup is WrongType.
+/// The Apery list modulo the multiplicity: entry `i` is the least member congruent to `i` (Rosales and Garcia-Sanchez).
+/// A value that is no semigroup is WrongType.
 pub fn apery_list_of(alloc: Global, store: &mut Store, s: &Value) -> Result<Value, CallFault>
     requires { AllKnown (named store.old) s.now }
     ensures reply { Replies result store.new (apery_list_of (plain (named store.old) s.now)) }
@@ -39,7 +39,7 @@ pub fn apery_list_of(alloc: Global, store: &mut Store, s: &Value) -> Result<Valu
     natural_list(alloc, table.apery())
 }
 
-/// The pseudo-Frobenius numbers, ascending (Rosales and Garcia-Sanchez, section 1.3). A value that is no semigroup is
+/// The pseudo-Frobenius numbers, ascending (Rosales and Garcia-Sanchez). A value that is no semigroup is
 /// WrongType.
 pub fn pseudo_frobenius_of(alloc: Global, store: &mut Store, s: &Value) -> Result<Value, CallFault>
     requires { AllKnown (named store.old) s.now }
@@ -53,8 +53,8 @@ pub fn pseudo_frobenius_of(alloc: Global, store: &mut Store, s: &Value) -> Resul
     integer_list(alloc, numbers.as_slice())
 }
 
-/// The special gaps, ascending: the pseudo-Frobenius numbers whose double is a member (Rosales and Garcia-Sanchez,
-/// section 3.2). A value that is no semigroup is WrongType.
+/// The special gaps, ascending: the pseudo-Frobenius numbers whose double is a member (Rosales and Garcia-Sanchez).
+/// A value that is no semigroup is WrongType.
 pub fn special_gaps_of(alloc: Global, store: &mut Store, s: &Value) -> Result<Value, CallFault>
     requires { AllKnown (named store.old) s.now }
     ensures reply { Replies result store.new (special_gaps_of (plain (named store.old) s.now)) }

@@ -30,7 +30,7 @@ fn apery_modulo(alloc: Global, table: &Table, n: i64) -> Result<Value, CallFault
 }
 
 /// The Apery list modulo a member `n` above 0, of a semigroup and `n` in either order: entry `i` is the least member
-/// congruent to `i` (Rosales and Garcia-Sanchez, section 1.2). Arguments of other kinds are WrongType; `n` past
+/// congruent to `i` (Rosales and Garcia-Sanchez). Arguments of other kinds are WrongType; `n` past
 /// 1,048,576 is TooLarge; `n` below 1 or outside the semigroup is BadArgument.
 pub fn apery_list_modulo_of(
     alloc: Global,

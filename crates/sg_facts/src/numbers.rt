@@ -12,7 +12,7 @@ use sg_store::Store;
 use sg_value::Value;
 use std::alloc::Global;
 
-/// The Frobenius number: the greatest integer that is no member (Rosales and Garcia-Sanchez, section 1.1). A value that is
+/// The Frobenius number: the greatest integer that is no member (Rosales and Garcia-Sanchez). A value that is
 /// no semigroup is WrongType.
 pub fn frobenius_number_of(alloc: Global, store: &mut Store, s: &Value) -> Result<Value, CallFault>
     requires { AllKnown (named store.old) s.now }
@@ -26,8 +26,8 @@ pub fn frobenius_number_of(alloc: Global, store: &mut Store, s: &Value) -> Resul
     Ok(Value::Int(frobenius(&table)))
 }
 
-/// The multiplicity: the least member above 0, which is the first of the minimal generators (Rosales and Garcia-Sanchez,
-/// section 1.2). A value that is no semigroup is WrongType.
+/// The multiplicity: the least member above 0, which is the first of the minimal generators (Rosales and Garcia-Sanchez).
+/// A value that is no semigroup is WrongType.
 pub fn multiplicity_of(store: &Store, s: &Value) -> Result<Value, CallFault>
     requires { AllKnown (named store.now) s.now }
     ensures { Replies result store.now (multiplicity_of (plain (named store.now) s.now)) }
@@ -38,7 +38,7 @@ pub fn multiplicity_of(store: &Store, s: &Value) -> Result<Value, CallFault>
     Ok(natural(store.generators(id).as_slice()[0]))
 }
 
-/// The embedding dimension: the number of minimal generators (Rosales and Garcia-Sanchez, section 1.2). A value that is
+/// The embedding dimension: the number of minimal generators (Rosales and Garcia-Sanchez). A value that is
 /// no semigroup is WrongType.
 pub fn embedding_dimension_of(store: &Store, s: &Value) -> Result<Value, CallFault>
     requires { AllKnown (named store.now) s.now }
@@ -50,7 +50,7 @@ pub fn embedding_dimension_of(store: &Store, s: &Value) -> Result<Value, CallFau
     Ok(natural(store.generators(id).as_slice().len() as u64))
 }
 
-/// The conductor: the least number from which on all are members (Rosales and Garcia-Sanchez, section 1.2). A value that
+/// The conductor: the least number from which on all are members (Rosales and Garcia-Sanchez). A value that
 /// is no semigroup is WrongType.
 pub fn conductor_of(alloc: Global, store: &mut Store, s: &Value) -> Result<Value, CallFault>
     requires { AllKnown (named store.old) s.now }
@@ -64,7 +64,7 @@ pub fn conductor_of(alloc: Global, store: &mut Store, s: &Value) -> Result<Value
     Ok(natural(conductor(&table)))
 }
 
-/// The genus: the number of gaps (Rosales and Garcia-Sanchez, section 1.2). A value that is no semigroup is WrongType.
+/// The genus: the number of gaps (Rosales and Garcia-Sanchez). A value that is no semigroup is WrongType.
 pub fn genus_of(alloc: Global, store: &mut Store, s: &Value) -> Result<Value, CallFault>
     requires { AllKnown (named store.old) s.now }
     ensures reply { Replies result store.new (genus_of (plain (named store.old) s.now)) }
@@ -77,7 +77,7 @@ pub fn genus_of(alloc: Global, store: &mut Store, s: &Value) -> Result<Value, Ca
     Ok(natural(genus(&table)))
 }
 
-/// The type: the number of pseudo-Frobenius numbers (Rosales and Garcia-Sanchez, section 1.3). A value that is no
+/// The type: the number of pseudo-Frobenius numbers (Rosales and Garcia-Sanchez). A value that is no
 /// semigroup is WrongType.
 pub fn type_of(alloc: Global, store: &mut Store, s: &Value) -> Result<Value, CallFault>
     requires { AllKnown (named store.old) s.now }

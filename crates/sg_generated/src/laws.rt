@@ -34,8 +34,7 @@ pub fn operations_on_ideals_have_minimal_lists()
     ensures translate { (G : List ℕ) → IsNumericalSemigroup G → (I : List ℤ) (x : ℤ) → 0 < length I → HasIdeal G (IsInTranslate x (IsIdealMember G I)) }
 {}
 
-/// Each numerical semigroup has a canonical and a maximal ideal (Rosales and Garcia-Sanchez, Numerical Semigroups, 2009,
-/// section 2.4).
+/// Each numerical semigroup has a canonical and a maximal ideal (Rosales and Garcia-Sanchez, Numerical Semigroups, 2009).
 pub fn the_canonical_and_the_maximal_ideal_have_minimal_lists()
     ensures canonical { (G : List ℕ) → IsNumericalSemigroup G → HasIdeal G (IsInCanonical G) }
     ensures maximal { (G : List ℕ) → IsNumericalSemigroup G → HasIdeal G (IsInMaximal G) }

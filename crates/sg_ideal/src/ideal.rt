@@ -19,7 +19,7 @@ use std::marker::Model;
 /// A relative ideal of a numerical semigroup: a set of integers with a least element that each member of the semigroup
 /// moves into itself. It keeps the minimal generators of the semigroup and its own, the first of which is its least
 /// element, and the distance from it to the least member in each residue class. Contracts see the two lists (Rosales
-/// and Garcia-Sanchez, Numerical Semigroups, 2009, section 2.4).
+/// and Garcia-Sanchez, Numerical Semigroups, 2009).
 #[derive(Drop)]
 pub struct Ideal {
     ambient: Nats,

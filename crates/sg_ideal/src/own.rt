@@ -62,7 +62,7 @@ fn reflected(alloc: Global, highest: i64, numbers: &[i64]) -> Result<Ints, Alloc
 
 /// The canonical ideal: the integers `x` for which the Frobenius number less `x` is no member. The Frobenius number less
 /// each pseudo-Frobenius number is a minimal generator of it, and there are no others (Rosales and Garcia-Sanchez,
-/// Numerical Semigroups, 2009, section 2.4). `pf` are the table's pseudo-Frobenius numbers.
+/// Numerical Semigroups, 2009). `pf` are the table's pseudo-Frobenius numbers.
 ///
 /// TooLarge where a minimal generator's absolute value is 2^32 or more, and no other fault.
 pub fn canonical(alloc: Global, t: &Table, pf: &Ints) -> Result<Ideal, IdealFault>

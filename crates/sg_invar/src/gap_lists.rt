@@ -31,7 +31,7 @@ pub fn gaps(alloc: Global, table: &Table) -> Result<Nats, AllocError>
     Ok(gaps)
 }
 
-/// The members up to the conductor, which is the last of them (Rosales and Garcia-Sanchez, section 2.3).
+/// The members up to the conductor, which is the last of them (Rosales and Garcia-Sanchez).
 pub fn small_elements(alloc: Global, table: &Table) -> Result<Nats, AllocError>
     ensures { IfOk result (AreSmallElements table.now) }
 {
@@ -56,7 +56,7 @@ fn is_fundamental_gap(table: &Table, n: u64) -> bool
     is_member(table, 2 * n) && is_member(table, 3 * n)
 }
 
-/// The gaps of which each multiple by 2 or more is a member (Rosales and Garcia-Sanchez, section 4.1).
+/// The gaps of which each multiple by 2 or more is a member (Rosales and Garcia-Sanchez).
 pub fn fundamental_gaps(alloc: Global, table: &Table) -> Result<Nats, AllocError>
     ensures { IfOk result (Lists (IsFundamentalGap table.now)) }
 {

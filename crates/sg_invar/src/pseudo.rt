@@ -87,7 +87,7 @@ fn has_double(table: &Table, x: i64, frobenius: i64) -> bool
 }
 
 /// The pseudo-Frobenius numbers whose double is a member, in ascending order: those that give a numerical semigroup
-/// where they are added (Rosales and Garcia-Sanchez, section 3.2). `pf` are the table's pseudo-Frobenius numbers.
+/// where they are added (Rosales and Garcia-Sanchez). `pf` are the table's pseudo-Frobenius numbers.
 pub fn special_gaps(alloc: Global, table: &Table, pf: &Ints) -> Result<Ints, AllocError>
     requires { ListsIntegers (IsPseudoFrobenius table.now) pf.now }
     ensures { IfOk result (ListsIntegers (IsSpecialGap table.now)) }

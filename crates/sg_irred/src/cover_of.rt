@@ -71,7 +71,7 @@ fn cover_list(alloc: Global, table: &Table, h: i64) -> Result<Vec<u64>, AllocErr
 
 /// The minimal generators of the cover of `h`: the members, all numbers above `h`, and of two numbers with the sum `h`,
 /// of which neither is a member, the greater. Where `h` is a gap it is the Frobenius number of the cover, which is
-/// irreducible (Rosales and Garcia-Sanchez, section 4.2).
+/// irreducible (Rosales and Garcia-Sanchez).
 pub fn cover(alloc: Global, table: &Table, h: i64) -> Result<Nats, AllocError>
     requires natural { pos 0 ≤ℤ h }
     requires high { h ≤ℤ pos (MULTIPLICITY_LIMIT * ENTRY_LIMIT) }

@@ -61,7 +61,7 @@ fn covers(alloc: Global, table: &Table, chosen: &[i64]) -> Result<Rows, AllocErr
 /// The semigroup as the intersection of irreducible ones, none of which can be left out: the covers of chosen special
 /// gaps, by their minimal generators. The special gaps are walked in descending order, and each is chosen that lies in
 /// the cover of each one chosen before. Where there is no special gap, as in N alone, it is the semigroup itself
-/// (Rosales and Garcia-Sanchez, section 4.2).
+/// (Rosales and Garcia-Sanchez).
 pub fn decompose(alloc: Global, table: &Table, special: &Ints) -> Result<Rows, AllocError>
     requires special { ListsIntegers (IsSpecialGap table.now) special.now }
     requires span { (s : ℕ) × IsSpan table.now s × (s ≤ SPAN_LIMIT) }

@@ -41,7 +41,7 @@ pub fn intersection_of(
 }
 
 /// The quotient of a semigroup by an integer: the naturals whose product with the integer is a member (Rosales and
-/// Garcia-Sanchez, Numerical Semigroups, 2009, section 5.2).
+/// Garcia-Sanchez, Numerical Semigroups, 2009).
 ///
 /// WrongType where the arguments are no semigroup and integer; BadArgument where the integer is below 1; then TooLarge
 /// where the quotient is not fit for a table.

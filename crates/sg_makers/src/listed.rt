@@ -87,7 +87,7 @@ pub fn by_gaps_of(alloc: Global, store: &mut Store, l: &Value) -> Result<Value, 
 }
 
 /// The numerical semigroup of the entries of a list and of all naturals above the greatest, in any order and with
-/// repeats (Rosales and Garcia-Sanchez, Numerical Semigroups, 2009, section 1.2).
+/// repeats (Rosales and Garcia-Sanchez, Numerical Semigroups, 2009).
 ///
 /// WrongType where the argument is no list of integers; BadArgument where the list is empty, an entry is negative, 0 is
 /// missing, or that set is not closed under sums; then TooLarge where the semigroup is not fit for a table.
@@ -100,7 +100,7 @@ pub fn by_small_elements_of(alloc: Global, store: &mut Store, l: &Value) -> Resu
 }
 
 /// The numerical semigroup that has a list as its Apery list modulo the number of entries: entry `i` is the least member
-/// congruent to `i` (Rosales and Garcia-Sanchez, Numerical Semigroups, 2009, section 1.2).
+/// congruent to `i` (Rosales and Garcia-Sanchez, Numerical Semigroups, 2009).
 ///
 /// WrongType where the argument is no list of integers; BadArgument where the list is no Apery list; then TooLarge where
 /// the semigroup is not fit for a table.
@@ -113,7 +113,7 @@ pub fn by_apery_list_of(alloc: Global, store: &mut Store, l: &Value) -> Result<V
 }
 
 /// The numerical semigroup of the naturals that divide no entry of a list, in any order and with repeats. Its
-/// fundamental gaps are among the entries (Rosales and Garcia-Sanchez, Numerical Semigroups, 2009, section 3.3).
+/// fundamental gaps are among the entries (Rosales and Garcia-Sanchez, Numerical Semigroups, 2009).
 ///
 /// WrongType where the argument is no list of integers; TooLarge where an entry passes `FUNDAMENTAL_GAP_LIMIT`;
 /// BadArgument where an entry is below 1, or those naturals are no numerical semigroup; then TooLarge where it is not

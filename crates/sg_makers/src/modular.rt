@@ -53,7 +53,7 @@ fn proportional(
 }
 
 /// The modular numerical semigroup of two integers `a` and `b`: the naturals `x` with `a x mod b <= x` (Rosales and
-/// Garcia-Sanchez, Numerical Semigroups, 2009, section 4.1).
+/// Garcia-Sanchez, Numerical Semigroups, 2009).
 ///
 /// WrongType where an argument is no integer; TooLarge where `b` passes `MODULUS_LIMIT`; BadArgument where `a` or `b` is
 /// below 1; then TooLarge where the semigroup is not fit for a table.
@@ -76,7 +76,7 @@ pub fn modular_of(
 }
 
 /// The proportionally modular numerical semigroup of three integers `a`, `b` and `c`: the naturals `x` with
-/// `a x mod b <= c x` (Rosales and Garcia-Sanchez, Numerical Semigroups, 2009, section 4.1).
+/// `a x mod b <= c x` (Rosales and Garcia-Sanchez, Numerical Semigroups, 2009).
 ///
 /// WrongType where an argument is no integer; TooLarge where `b` passes `MODULUS_LIMIT`; BadArgument where one is below
 /// 1; then TooLarge where the semigroup is not fit for a table.

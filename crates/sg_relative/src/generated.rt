@@ -15,7 +15,7 @@ use sg_value::Value;
 use std::alloc::Global;
 
 /// The relative ideal of a semigroup that a list of integers generates: the sums of an entry and a member (Rosales and
-/// Garcia-Sanchez, Numerical Semigroups, 2009, section 2.4).
+/// Garcia-Sanchez, Numerical Semigroups, 2009).
 ///
 /// WrongType where the arguments are no list of integers and semigroup; TooLarge where an entry's absolute value is 2^32
 /// or more; then BadArgument where there is no entry.

@@ -15,7 +15,7 @@ use sg_value::Value;
 use std::alloc::Global;
 
 /// The canonical ideal of a semigroup: the integers that, taken from the Frobenius number, give no member (Rosales and
-/// Garcia-Sanchez, Numerical Semigroups, 2009, section 2.4).
+/// Garcia-Sanchez, Numerical Semigroups, 2009).
 ///
 /// WrongType where the argument is no semigroup; TooLarge where a minimal generator's absolute value is 2^32 or more.
 pub fn canonical_of(alloc: Global, store: &mut Store, s: &Value) -> Result<Value, CallFault>

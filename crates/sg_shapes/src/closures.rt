@@ -29,7 +29,7 @@ fn is_arf_within(alloc: Global, table: &Table) -> Result<Value, CallFault>
     Ok(truth(is_arf(alloc, table)?))
 }
 
-/// Whether `x + y - z` is a member for all members `x >= y >= z` (Rosales and Garcia-Sanchez, section 3.2). A value that
+/// Whether `x + y - z` is a member for all members `x >= y >= z` (Rosales and Garcia-Sanchez). A value that
 /// is no semigroup is WrongType; a span past the limit is TooLarge.
 pub fn is_arf_of(alloc: Global, store: &mut Store, s: &Value) -> Result<Value, CallFault>
     requires { AllKnown (named store.old) s.now }
@@ -54,7 +54,7 @@ fn is_saturated_within(alloc: Global, table: &Table) -> Result<Value, CallFault>
 }
 
 /// Whether a member with any integer combination of members up to it that is not negative is a member (Rosales and
-/// Garcia-Sanchez, section 3.3). A value that is no semigroup is WrongType; a span past the limit is TooLarge.
+/// Garcia-Sanchez). A value that is no semigroup is WrongType; a span past the limit is TooLarge.
 pub fn is_saturated_of(alloc: Global, store: &mut Store, s: &Value) -> Result<Value, CallFault>
     requires { AllKnown (named store.old) s.now }
     ensures reply { Replies result store.new (is_saturated_of (plain (named store.old) s.now)) }
@@ -75,7 +75,7 @@ fn known(store: &mut Store, table: &Table) -> Result<SemId, AllocError>
     store.intern(table.generators().try_clone()?)
 }
 
-/// The least Arf semigroup that holds all of it (Rosales and Garcia-Sanchez, section 3.2). A value that is no semigroup is
+/// The least Arf semigroup that holds all of it (Rosales and Garcia-Sanchez). A value that is no semigroup is
 /// WrongType; a span past the limit is TooLarge.
 pub fn arf_closure_of(alloc: Global, store: &mut Store, s: &Value) -> Result<Value, CallFault>
     requires { AllKnown (named store.old) s.now }
@@ -95,7 +95,7 @@ pub fn arf_closure_of(alloc: Global, store: &mut Store, s: &Value) -> Result<Val
 }
 
 /// The least semigroup of maximal embedding dimension and the same multiplicity that holds all of it (Rosales and
-/// Garcia-Sanchez, section 3.1). A value that is no semigroup is WrongType; a span past the limit is TooLarge.
+/// Garcia-Sanchez). A value that is no semigroup is WrongType; a span past the limit is TooLarge.
 pub fn med_closure_of(alloc: Global, store: &mut Store, s: &Value) -> Result<Value, CallFault>
     requires { AllKnown (named store.old) s.now }
     ensures reply { Replies result store.new (med_closure_of (plain (named store.old) s.now)) }
@@ -113,7 +113,7 @@ pub fn med_closure_of(alloc: Global, store: &mut Store, s: &Value) -> Result<Val
     Ok(Value::Sem(known(store, &closure)?))
 }
 
-/// The least saturated semigroup that holds all of it (Rosales and Garcia-Sanchez, section 3.3). A value that is no
+/// The least saturated semigroup that holds all of it (Rosales and Garcia-Sanchez). A value that is no
 /// semigroup is WrongType; a span past the limit is TooLarge.
 pub fn saturated_closure_of(alloc: Global, store: &mut Store, s: &Value) -> Result<Value, CallFault>
     requires { AllKnown (named store.old) s.now }

@@ -75,7 +75,7 @@ fn decomposed_within(
     semigroup_list(alloc, store, lists.as_slice())
 }
 
-/// Irreducible semigroups that meet in it, none of which can be left out (Rosales and Garcia-Sanchez, section 4.2). A
+/// Irreducible semigroups that meet in it, none of which can be left out (Rosales and Garcia-Sanchez). A
 /// value that is no semigroup is WrongType; a span past the limit is TooLarge.
 pub fn decompose_into_irreducibles_of(
     alloc: Global,

@@ -15,7 +15,7 @@ use sg_value::Value;
 use std::alloc::Global;
 
 /// Whether of every integer `x` and `F - x`, for the Frobenius number `F`, exactly one is a member (Rosales and
-/// Garcia-Sanchez, section 4.1). A value that is no semigroup is WrongType.
+/// Garcia-Sanchez). A value that is no semigroup is WrongType.
 pub fn is_symmetric_of(alloc: Global, store: &mut Store, s: &Value) -> Result<Value, CallFault>
     requires { AllKnown (named store.old) s.now }
     ensures reply { Replies result store.new (is_symmetric_of (plain (named store.old) s.now)) }
@@ -28,8 +28,8 @@ pub fn is_symmetric_of(alloc: Global, store: &mut Store, s: &Value) -> Result<Va
     Ok(truth(is_symmetric(&table)))
 }
 
-/// Whether `F` is even and the same holds of every integer but the half of `F` (Rosales and Garcia-Sanchez,
-/// section 4.1). A value that is no semigroup is WrongType.
+/// Whether `F` is even and the same holds of every integer but the half of `F` (Rosales and Garcia-Sanchez).
+/// A value that is no semigroup is WrongType.
 pub fn is_pseudo_symmetric_of(
     alloc: Global,
     store: &mut Store,
@@ -46,7 +46,7 @@ pub fn is_pseudo_symmetric_of(
     Ok(truth(is_pseudo_symmetric(&table)))
 }
 
-/// Whether it is no meet of two numerical semigroups properly above it (Rosales and Garcia-Sanchez, section 4.1). A value
+/// Whether it is no meet of two numerical semigroups properly above it (Rosales and Garcia-Sanchez). A value
 /// that is no semigroup is WrongType.
 pub fn is_irreducible_of(alloc: Global, store: &mut Store, s: &Value) -> Result<Value, CallFault>
     requires { AllKnown (named store.old) s.now }
@@ -61,7 +61,7 @@ pub fn is_irreducible_of(alloc: Global, store: &mut Store, s: &Value) -> Result<
 }
 
 /// Whether it is of maximal embedding dimension, that is, the embedding dimension is the multiplicity (Rosales and
-/// Garcia-Sanchez, section 3.1). A value that is no semigroup is WrongType.
+/// Garcia-Sanchez). A value that is no semigroup is WrongType.
 pub fn is_med_of(alloc: Global, store: &mut Store, s: &Value) -> Result<Value, CallFault>
     requires { AllKnown (named store.old) s.now }
     ensures reply { Replies result store.new (is_med_of (plain (named store.old) s.now)) }

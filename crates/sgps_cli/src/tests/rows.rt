@@ -108,6 +108,15 @@ fn scripts_that_print(rt: HostRuntime) -> Result<(), Fail> {
             b"",
             b"sgps: line 1: Syntax\n",
         ),
+        good(
+            b"T:=NumericalSemigroup(3,7,8);I:=[0,1]+T;Print(CanonicalIdeal(T),I=CanonicalIdeal(T),2*I=I+I,2 in I);",
+            b"[ 0, 1 ] + NumericalSemigroup( [ 3, 7, 8 ] )truetruefalse",
+        ),
+        bad(
+            b"T:=NumericalSemigroup(3,7,8);\nMaximalIdeal(T)+MaximalIdeal(NumericalSemigroup(3,5));",
+            b"",
+            b"sgps: line 2: BadArgument\n",
+        ),
         bad(b"l:=[1,2];Print(l[3]);", b"", b"sgps: line 1: IndexOut\n"),
         bad(b"Print(y);", b"", b"sgps: line 1: UnknownName\n"),
         bad(b"Length();", b"", b"sgps: line 1: WrongCount\n"),
