@@ -53,6 +53,7 @@ impl Machine {
     }
 
     /// The value of a parameter, or else of a variable.
+    #[inline(always)]
     pub fn named(&self, alloc: Global, name: &[u8]) -> Result<Value, CallFault>
         ensures { Evaluates plain AllKnown result (state_of self.now) (state_of self.now) (λ names. looked_up (lookup (bytes_eq name.now) (state_of self.now).parameters) name.now) }
     {
@@ -155,6 +156,7 @@ impl Machine {
     }
 
     /// A variable gets a value.
+    #[inline(always)]
     pub fn set(&mut self, alloc: Global, name: &Bytes, value: Value) -> Result<(), AllocError>
         requires known { AllKnown (named (state_of self.old).names) value }
         ensures names { (state_of self.new).names ≡ (state_of self.old).names }
