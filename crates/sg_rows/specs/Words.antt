@@ -1,6 +1,7 @@
 -- Entries of lists of values.
 use Rattle.std.specs.Prelude.{◌≡◌, ◌⊎◌, ℕ, suc}
 use Rattle.sg_value.specs.Data.{Data, Items, none, item, Kind}
+
 -- how many entries there are
 abbrev pub entry_count : {H : Kind → Type 0} → Items H → ℕ
 entry_count none = 0
