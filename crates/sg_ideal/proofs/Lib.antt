@@ -21,3 +21,4 @@ pub mod ClosedLemmas
 pub mod FoldLemmas
 pub mod ReachLemmas
 pub mod GatherLemmas
+pub mod MultipleLemmas

@@ -56,6 +56,10 @@ pub record IsKept (G : List ℕ) (I : List ℤ) (t : List ℕ) : Type 0 where
   pub small : AreSmall I
   pub generates : GeneratesIdeal G (IsFrom (slice_index_or I 0 (pos 0)) t) I
 
+-- some list keeps the ideal
+abbrev pub HasEntries : List ℕ → List ℤ → Type 0
+HasEntries G I = (t : List ℕ) × IsKept G I t
+
 -- entry i is i
 pub record IsEveryClass (count : ℕ) (list : List ℕ) : Type 0 where
   pub long : length list ≡ count

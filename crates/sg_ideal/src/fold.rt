@@ -97,9 +97,9 @@ pub fn multiple(alloc: Global, k: u64, a: &Ideal) -> Result<Ideal, IdealFault>
     if k == 0 {
         return Err(IdealFault::BadArgument);
     }
-    let entries = fold(alloc, k, a)?;
     let Some(base) = product(k, a.least()) else {
         return Err(IdealFault::TooLarge);
     };
+    let entries = fold(alloc, k, a)?;
     from_table(alloc, a.ambient(), base, entries)
 }

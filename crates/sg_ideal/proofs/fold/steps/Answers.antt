@@ -4,7 +4,7 @@ use lib.Dec.{eqb}
 use Rattle.sg_ideal.specs.Classes.{IsSpread}
 use Rattle.sg_ideal.specs.Value.{IsLeast, IsSmall}
 use Rattle.sg_ideal.proofs.FoldLemmas.{IsFold, fold-one, fold-more, fold-stays}
-use Rattle.sg_ideal.proofs.PairLemmas.{passed-spread}
+use Rattle.sg_ideal.proofs.PairLemmas.{passed-least, passed-spread}
 use Rattle.sg_ideal.proofs.fold.steps.Goals as goal
 
 -- what was spread, from the first generator on
@@ -18,6 +18,9 @@ slices x y e = search rules
 
 pub loop-folds-init : goal.loop-folds-init
 loop-folds-init c = fold-one c.args.a.now c.entries.result.now c.in_ok-list.list.items c.entries.ensures c.in_ok-list.ensures.items
+
+pub spread-requires-clause-least : goal.spread-requires-clause-least
+spread-requires-clause-least c = (passed-least c.args.a.now.generators c.generators.result.now c.least.result c.generators.ensures.same c.least.ensures.small c.least.ensures.least).below
 
 pub loop-folds-preserved : goal.loop-folds-preserved
 loop-folds-preserved c =
