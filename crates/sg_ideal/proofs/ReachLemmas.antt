@@ -1,5 +1,5 @@
 -- A set and its sums with a distance that is added again and again.
-use Rattle.std.proofs.Common.{◌≡◌, ℕ, ◌+◌, ◌-◌, ◌*◌, ◌<◌, ◌≤◌, ◌↔◌, List, length, get_or, refl, sym, ap, subst, ◌∙◌, inl, inr, arith}
+use Rattle.std.proofs.Common.{◌≡◌, ℕ, zero, suc, ◌+◌, ◌-◌, ◌*◌, ◌<◌, ◌≤◌, ◌↔◌, List, length, get_or, refl, sym, ap, subst, ◌∙◌, inl, inr, arith}
 use Rattle.std.specs.Prelude.{◌⊎◌}
 use Rattle.std.proofs.lemmas.Bool.{cases_lt}
 use Rattle.std.proofs.Math.Nat.{add-mul-mod_self_left}
@@ -50,6 +50,36 @@ module _ (t : List ℕ) (b k more : ℕ) (list now : List ℕ) (q : ℕ) (e : q 
     long = long ∙ h.long;
     classes = classes;
     same = λ n. (to n, from n);
+  }
+
+-- what adds nothing once adds nothing any more
+module _ (t : List ℕ) (b k more : ℕ) (list : List ℕ) (some : 0 < more) (r : IsReach t b k list) (s : IsReach t b (k + more) list) where
+  once : (n : ℕ) → IsAboveEntry list n → IsAboveEntry list (n + b)
+  once n a =
+      let p = (r.same n).0 a in
+      let l = p.1 in
+      let m = p.2 in
+      let e : (p.0 + 1) * b ≡ p.0 * b + b = omega arith in
+      let f : n - p.0 * b ≡ (n + b) - (p.0 + 1) * b = omega (arith, e, m) in
+      (s.same (n + b)).1 (p.0 + 1, omega (arith, l, some), omega (arith, e, m), subst (IsAboveEntry t) f p.3)
+
+  often : (i n : ℕ) → IsAboveEntry t n → IsAboveEntry list (n + i * b)
+  often zero n a =
+      let f : n ≡ n - 0 * b = omega arith in
+      let g : n ≡ n + 0 * b = omega arith in
+      subst (IsAboveEntry list) g ((r.same n).1 (0, omega arith, omega arith, subst (IsAboveEntry t) f a))
+  often (suc i) n a =
+      let f : (n + i * b) + b ≡ n + suc i * b = omega arith in
+      subst (IsAboveEntry list) f (once (n + i * b) (often i n a))
+
+  pub reach-stays : (count : ℕ) → k ≤ count → IsReach t b count list
+  reach-stays count l = record {
+    long = r.long;
+    classes = r.classes;
+    same = λ n. (
+      (λ a. let p = (r.same n).0 a in let m = p.1 in (p.0, omega (arith, l, m), p.2, p.3)),
+      (λ p. let m = p.2 in let f : (n - p.0 * b) + p.0 * b ≡ n = omega (arith, m) in subst (IsAboveEntry list) f (often p.0 (n - p.0 * b) p.3)),
+    );
   }
 
 -- a number and a multiple of the modulus

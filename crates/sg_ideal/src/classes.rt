@@ -71,7 +71,7 @@ pub(crate) fn spread(
     Ok(list)
 }
 
-/// A set and its sums with a distance that is added up to `count` times.
+/// A set and its sums with a distance that is added up to `count` times. Where more of it adds nothing, no more ever does.
 pub(crate) fn reach(
     alloc: Global,
     entries: &[u64],
@@ -89,6 +89,9 @@ pub(crate) fn reach(
         let more = (reached + 1).min(count - reached);
         let before = Vec::from_slice(alloc, &list)?;
         extend(&mut list, &before, by * more);
+        if list.as_slice() == before.as_slice() {
+            return Ok(list);
+        }
         reached += more;
     }
     Ok(list)
