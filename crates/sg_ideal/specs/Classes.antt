@@ -56,7 +56,7 @@ pub record IsKept (G : List ℕ) (I : List ℤ) (t : List ℕ) : Type 0 where
   pub small : AreSmall I
   pub generates : GeneratesIdeal G (IsFrom (slice_index_or I 0 (pos 0)) t) I
 
--- some list keeps the ideal
+-- some list tells how far the members lie from the least
 abbrev pub HasEntries : List ℕ → List ℤ → Type 0
 HasEntries G I = (t : List ℕ) × IsKept G I t
 

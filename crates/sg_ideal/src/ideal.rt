@@ -118,7 +118,7 @@ impl Ideal {
         self.generators.as_slice()
     }
 
-    /// The least member, which is the first of them. What the entries keep stands with it.
+    /// The least member, which is the first of them.
     pub(crate) fn least(&self) -> i64
         ensures kept { HasEntries self.now.ambient self.now.generators }
         ensures first { result ≡ slice_index_or self.now.generators 0 (pos 0) }
