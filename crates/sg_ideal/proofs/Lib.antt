@@ -19,3 +19,6 @@ pub mod DecidedLemmas
 pub mod ReduceLemmas
 pub mod ClosedLemmas
 pub mod FoldLemmas
+pub mod ReachLemmas
+pub mod GatherLemmas
+pub mod MultipleLemmas

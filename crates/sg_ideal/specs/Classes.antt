@@ -1,5 +1,5 @@
 -- Sets of naturals that are closed under adding the modulus, by the least number in each residue class.
-use Rattle.std.specs.Prelude.{◌≡◌, ℕ, ℤ, pos, ◌+ℤ◌, ◌-ℤ◌, ◌+◌, ◌*◌, ◌%◌, ◌<◌, ◌≤◌, ◌↔◌, List, length, slice_index, slice_index_or, Contains}
+use Rattle.std.specs.Prelude.{◌≡◌, ℕ, ℤ, pos, ◌+ℤ◌, ◌-ℤ◌, ◌+◌, ◌-◌, ◌*◌, ◌%◌, ◌<◌, ◌≤◌, ◌↔◌, List, length, slice_index, slice_index_or, Contains}
 use Rattle.sg_defs.specs.Membership.{IsNumericalSemigroup, IsMinimal, AtNatural}
 use Rattle.sg_apery.specs.Classes.{IsAboveEntry}
 use Rattle.sg_apery.specs.Fit.{IsFit}
@@ -22,6 +22,12 @@ pub record IsSpread (t : List ℕ) (base : ℤ) (I : List ℤ) (list : List ℕ)
   pub long : length list ≡ length t
   pub classes : AreClasses list
   pub same : (n : ℕ) → IsAboveEntry list n ↔ ((g : ℤ) × Contains I g × IsFrom g t (base +ℤ pos n))
+
+-- the list tells the sums of a number of t and of b, which is added no more than count times
+pub record IsReach (t : List ℕ) (b count : ℕ) (list : List ℕ) : Type 0 where
+  pub long : length list ≡ length t
+  pub classes : AreClasses list
+  pub same : (n : ℕ) → IsAboveEntry list n ↔ ((e : ℕ) × (e ≤ count) × (e * b ≤ n) × IsAboveEntry t (n - e * b))
 
 -- the minimal list of a numerical semigroup within the limits
 pub record IsAmbient (G : List ℕ) : Type 0 where
@@ -49,6 +55,10 @@ pub record IsKept (G : List ℕ) (I : List ℤ) (t : List ℕ) : Type 0 where
   pub table : IsIdealTable G t
   pub small : AreSmall I
   pub generates : GeneratesIdeal G (IsFrom (slice_index_or I 0 (pos 0)) t) I
+
+-- some list tells how far the members lie from the least
+abbrev pub HasEntries : List ℕ → List ℤ → Type 0
+HasEntries G I = (t : List ℕ) × IsKept G I t
 
 -- entry i is i
 pub record IsEveryClass (count : ℕ) (list : List ℕ) : Type 0 where

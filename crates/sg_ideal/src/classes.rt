@@ -2,7 +2,7 @@
 
 ghost use Rattle.std.specs.Prelude.{◌≡◌, ◌+◌, ◌-◌, ◌^◌, ◌<◌, ◌≤◌, ◌⊎◌, ◌↔◌, ℕ, ℤ, ◌≤ℤ◌, length, Contains, IfOk, IsTrue};
 ghost use Rattle.sg_apery.specs.Classes.{IsAboveEntry};
-ghost use Rattle.sg_ideal.specs.Classes.{AreClasses, IsEveryClass, IsLeastAbove, IsRebased, IsReduced, IsSpread};
+ghost use Rattle.sg_ideal.specs.Classes.{AreClasses, IsEveryClass, IsLeastAbove, IsReach, IsRebased, IsReduced, IsSpread};
 ghost use Rattle.sg_ideal.specs.Value.{AreSmall, IsLeast};
 
 use sg_apery::MULTIPLICITY_LIMIT;
@@ -67,6 +67,32 @@ pub(crate) fn spread(
     let mut list = Vec::from_slice(alloc, entries)?;
     for generator in generators {
         extend(&mut list, entries, (*generator - base) as u64);
+    }
+    Ok(list)
+}
+
+/// A set and its sums with a distance that is added up to `count` times. Where more of it adds nothing, no more ever does.
+pub(crate) fn reach(
+    alloc: Global,
+    entries: &[u64],
+    by: u64,
+    count: u64,
+) -> Result<Vec<u64>, AllocError>
+    requires classes { AreClasses entries.now }
+    requires by { by ≤ 2 ^ 33 }
+    requires count { count ≤ 2 ^ 22 }
+    ensures { IfOk result (λ list. IsReach entries.now by count list.items) }
+{
+    let mut list = Vec::from_slice(alloc, entries)?;
+    let mut reached = 0;
+    while reached < count {
+        let more = (reached + 1).min(count - reached);
+        let before = Vec::from_slice(alloc, &list)?;
+        extend(&mut list, &before, by * more);
+        if list.as_slice() == before.as_slice() {
+            return Ok(list);
+        }
+        reached += more;
     }
     Ok(list)
 }

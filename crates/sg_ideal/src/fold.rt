@@ -1,12 +1,12 @@
 //! Sums of members of one ideal.
 
-ghost use Rattle.std.specs.Prelude.{◌≡◌, ◌<◌, ◌↔◌, ℤ, pos, slice_index_or, IfOk, IfErr, OnOk, MatchOption};
+ghost use Rattle.std.specs.Prelude.{◌≡◌, ◌*◌, ◌<◌, ◌↔◌, ℤ, pos, length, slice_index, slice_index_or, IfOk, IfErr, OnOk, MatchOption};
 ghost use Rattle.sg_defs.specs.Ideals.{IsInMultiple};
 ghost use Rattle.sg_ideal.specs.Classes.{IsFrom, IsIdealTable};
 ghost use Rattle.sg_ideal.specs.Faults.{IsMultipleRefused};
 ghost use Rattle.sg_ideal.specs.Value.{IsIdealOf, IsIn, IsLarge, IsSmall, times};
 
-use crate::classes::spread;
+use crate::classes::{reach, spread};
 use crate::fault::IdealFault;
 use crate::ideal::Ideal;
 use crate::limits::GENERATOR_LIMIT;
@@ -30,9 +30,9 @@ fn product(k: u64, x: i64) -> Option<i64>
     Some(size as i64)
 }
 
-/// The sums of `k` members, from the least of them on. Once one more member adds none they stay the same, which is so
-/// after fewer steps than the multiplicity.
-fn fold(alloc: Global, k: u64, a: &Ideal) -> Result<Vec<u64>, AllocError>
+/// The sums of `k` members, from the least of them on, by one more member at a time. Once one more adds none they stay
+/// the same.
+fn steps(alloc: Global, k: u64, a: &Ideal) -> Result<Vec<u64>, AllocError>
     requires { 0 < k }
     ensures table { IfOk result (λ list. IsIdealTable a.now.ambient list.items) }
     ensures same { IfOk result (λ list. (x : ℤ) → IsInMultiple k (IsIn a.now) x ↔ IsFrom (times k (slice_index_or a.now.generators 0 (pos 0))) list.items x) }
@@ -48,6 +48,44 @@ fn fold(alloc: Global, k: u64, a: &Ideal) -> Result<Vec<u64>, AllocError>
     Ok(list)
 }
 
+/// The same where `k` is past the multiplicity for each generator: a distance from the least member that is added as
+/// often as the multiplicity says leads to what a member of the semigroup leads to, so each need be added no oftener,
+/// and so often may all of them.
+fn gather(alloc: Global, k: u64, a: &Ideal) -> Result<Vec<u64>, AllocError>
+    requires { length a.now.generators * slice_index a.now.ambient 0 < k }
+    ensures table { IfOk result (λ list. IsIdealTable a.now.ambient list.items) }
+    ensures same { IfOk result (λ list. (x : ℤ) → IsInMultiple k (IsIn a.now) x ↔ IsFrom (times k (slice_index_or a.now.generators 0 (pos 0))) list.items x) }
+{
+    let mut list = Vec::from_slice(alloc, a.entries())?;
+    let count = list.len() as u64;
+    for generator in a.generators() {
+        list = reach(alloc, &list, (*generator - a.least()) as u64, count)?;
+    }
+    Ok(list)
+}
+
+/// The sums of `k` members, from the least of them on. Of two generators only the second has a distance to add.
+fn fold(alloc: Global, k: u64, a: &Ideal) -> Result<Vec<u64>, AllocError>
+    requires { 0 < k }
+    ensures table { IfOk result (λ list. IsIdealTable a.now.ambient list.items) }
+    ensures same { IfOk result (λ list. (x : ℤ) → IsInMultiple k (IsIn a.now) x ↔ IsFrom (times k (slice_index_or a.now.generators 0 (pos 0))) list.items x) }
+{
+    let entries = a.entries();
+    let generators = a.generators();
+    if k / entries.len() as u64 > generators.len() as u64 {
+        return gather(alloc, k, a);
+    }
+    if generators.len() == 2 {
+        return reach(
+            alloc,
+            entries,
+            (generators[1] - generators[0]) as u64,
+            k - 1,
+        );
+    }
+    steps(alloc, k, a)
+}
+
 /// The sums of `k` members.
 ///
 /// BadArgument where `k` is 0; then TooLarge where a minimal generator's absolute value is 2^32 or more.
@@ -59,9 +97,9 @@ pub fn multiple(alloc: Global, k: u64, a: &Ideal) -> Result<Ideal, IdealFault>
     if k == 0 {
         return Err(IdealFault::BadArgument);
     }
-    let entries = fold(alloc, k, a)?;
     let Some(base) = product(k, a.least()) else {
         return Err(IdealFault::TooLarge);
     };
+    let entries = fold(alloc, k, a)?;
     from_table(alloc, a.ambient(), base, entries)
 }

@@ -3,7 +3,7 @@
 ghost use Rattle.std.specs.Prelude.{◌≡◌, ◌<◌, ◌↔◌, ℤ, pos, length, slice_index_or, IfOk, IfErr, OnOk, IsTrue};
 ghost use Rattle.sg_defs.specs.Ideals.{IsIdealMember, IsMinimalIdeal};
 ghost use Rattle.sg_defs.specs.Membership.{IsNumericalSemigroup};
-ghost use Rattle.sg_ideal.specs.Classes.{IsKept};
+ghost use Rattle.sg_ideal.specs.Classes.{HasEntries, IsKept};
 ghost use Rattle.sg_ideal.specs.Faults.{AreRefused};
 ghost use Rattle.sg_ideal.specs.Value.{IdealValue, AreSmall, IsIdealOf, IsIn, IsLeast, IsSmall};
 
@@ -120,6 +120,7 @@ impl Ideal {
 
     /// The least member, which is the first of them.
     pub(crate) fn least(&self) -> i64
+        ensures kept { HasEntries self.now.ambient self.now.generators }
         ensures first { result ≡ slice_index_or self.now.generators 0 (pos 0) }
         ensures least { IsLeast self.now.generators result }
         ensures small { IsSmall result }

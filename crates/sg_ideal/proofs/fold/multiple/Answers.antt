@@ -1,10 +1,8 @@
 use Rattle.std.proofs.Common.{◌≡◌, ◌∙◌, get_or, refl, ap, subst, ℤ, pos, to_z, of_z, w64, arith}
 use Rattle.std.proofs.lemmas.Int.{ints}
 use Rattle.sg_defs.specs.Ideals.{IsInMultiple}
-use Rattle.sg_ideal.specs.Classes.{IsFrom}
 use Rattle.sg_ideal.specs.Value.{IsIn, IsLarge, IsSmall, times}
-use Rattle.sg_ideal.proofs.ExistLemmas.{large-base}
-use Rattle.sg_ideal.proofs.FaultLemmas.{large-same}
+use Rattle.sg_ideal.proofs.MultipleLemmas.{multiple-large}
 use Rattle.sg_ideal.proofs.FinishLemmas.{finish-made, finish-refused, multiple-refused}
 use Rattle.sg_ideal.proofs.fold.multiple.Goals as goal
 
@@ -16,14 +14,11 @@ pub returns-in_default-clause-refused : goal.returns-in_default-clause-refused
 returns-in_default-clause-refused c =
     let J = c.args.a.now in
     let k = c.args.k in
-    let list = c.in_ok-entries.entries.items in
     let b = get_or J.generators 0 (pos 0) in
     let back = passed_least c.least.result b c.least.ensures.small c.least.ensures.first in
-    let none = c.if-k-eq0.false in (
-      (λ z. omega (arith, z, none)),
-      large-same J.ambient (IsFrom (times k b) list) (IsInMultiple k (IsIn J)) c.in_ok-entries.ensures.same
-          (large-base J.ambient list c.in_ok-entries.ensures.table (times k b) (subst (λ l. IsLarge (times k l)) back c.in_default.ensures)),
-    )
+    let none = c.if-k-eq0.false in
+    let kept = c.least.ensures.kept in
+    ((λ z. omega (arith, z, none)), multiple-large J kept.0 kept.1 k (omega (arith, none)) (subst (λ l. IsLarge (times k l)) back c.in_default.ensures))
 
 pub returns-clause-made : goal.returns-clause-made
 returns-clause-made c =
