@@ -1,4 +1,4 @@
--- Variables and queries whose semigroups are such as a script can make.
+-- Variables and queries whose semigroups and ideals are such as a script can make.
 use Rattle.std.specs.Prelude.{ℕ, List, [], ◌∷◌, Result, IfOk, ⊤}
 use Rattle.sg_rows.specs.Lawful.{IsLawful, AreLawful}
 use Rattle.sg_rows.specs.declared.fault.Fault.{Fault}

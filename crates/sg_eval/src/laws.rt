@@ -8,8 +8,8 @@ pub fn one_outcome()
     ensures { OneOutcome }
 {}
 
-/// A command, an operator or another form is answered over values whose semigroups are minimal lists within the limits,
-/// and a statement over such variables ends and leaves such variables.
+/// A command, an operator or another form is answered over values whose semigroups and ideals are minimal lists within
+/// the limits, and a statement over such variables ends and leaves such variables.
 pub fn some_outcome()
     ensures { SomeOutcome }
 {}

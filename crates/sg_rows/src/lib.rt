@@ -1,7 +1,7 @@
 //! What every row of a command or an operator is made of: faults, kinds of values, and the order of refusals.
 //!
-//! A row says what a call answers over plain values, in which a semigroup is its minimal list: the kinds that it takes,
-//! its conditions, and its value as a relation. The order in which refusals come, and the limits on every value, are
+//! A row says what a call answers over plain values, in which a semigroup or an ideal is its minimal lists: the kinds that
+//! it takes, its conditions, and its value as a relation. The order in which refusals come, and the limits on every value, are
 //! stated once, for all rows (`specs/Order`). This crate knows no command.
 //!
 //! The layer above uses: `Replies` (`specs/Replies`) is the contract of every function that answers a row.

@@ -21,7 +21,7 @@ use std::collections::HashMap;
 use std::marker::Model;
 use std::rc::Rc;
 
-/// The semigroups that are known, each once. Contracts see it as the lists of what it knows.
+/// The semigroups and ideals that are known, each once. Contracts see it as the lists of what it knows.
 #[derive(Drop)]
 pub struct Store {
     keys: IndexSet<Key>,
@@ -43,7 +43,7 @@ impl Model for Store {
 }
 
 impl Store {
-    /// The store that knows no semigroup.
+    /// The store that knows nothing.
     pub fn new(alloc: Global) -> Store
         ensures semigroups { result.semigroups ≡ [] }
         ensures ideals { result.ideals ≡ [] }
