@@ -11,8 +11,12 @@ for I in [ [0,1] + T, [0,2] + T, MaximalIdeal(T), 3 + K ] do
   Print(MinimalGenerators(I), " ", MinimalGenerators(K - I), " ", K - (K - I) = I, "\n");
 od;
 
-# powers of the maximal ideal, and where they come to a stop
-M := MaximalIdeal(T);
+# the blow-up of the maximal ideal: kM - kM grows with k, and stops at the semigroup that 4, 9-4 and 11-4 generate
+S := NumericalSemigroup(4,9,11);
+M := MaximalIdeal(S);
 for k in [1..4] do
-  Print(k, " ", MinimalGenerators(k * M), " ", MinimalGenerators((k * M) - (k * M)), "\n");
+  Print(k, " ", MinimalGenerators((k * M) - (k * M)), "\n");
 od;
+L := NumericalSemigroup(4,5,7);
+B := (4 * M) - (4 * M);
+Print(ForAll([-4..20], x -> (x in L) = (x in B)), "\n");
