@@ -19,3 +19,6 @@ pub mod SomeEnd
 pub mod LawfulExpressions
 pub mod LawfulStatements
 pub mod Borrowed
+pub mod AtOnce
+pub mod Computed
+pub mod Ranged

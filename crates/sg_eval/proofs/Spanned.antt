@@ -1,11 +1,13 @@
 -- Lists of integers in a row.
-use Rattle.std.proofs.Common.{◌≡◌, ◌<◌, ◌≤◌, ◌+◌, ◌-◌, ◌^◌, ℕ, zero, suc, ℤ, pos, ◌+ℤ◌, ◌-ℤ◌, min, max, List, [], ◌∷◌, ◌++◌, Option, Some, None, Ok, Err, Vec, Global, inl, inr, refl, ap, sym, ◌∙◌, subst, arith}
+use Rattle.std.proofs.Common.{◌≡◌, ◌<◌, ◌≤◌, ◌+◌, ◌-◌, ◌^◌, ℕ, zero, suc, ℤ, pos, negsuc, ◌+ℤ◌, ◌-ℤ◌, min, max, List, [], ◌∷◌, ◌++◌, Option, Some, None, Ok, Err, inl, inr, refl, ap, sym, ◌∙◌, subst, arith}
 use Rattle.sg_value.specs.Known.{named}
+use Rattle.std.specs.Prelude.{FitsSigned}
+use Rattle.std.specs.Int.{w64}
+use Rattle.std.proofs.lemmas.Int.{ints}
 use Rattle.std.proofs.Math.IntN.{+ℤ_assoc, +ℤ_idr}
-use Rattle.sg_value.specs.Data.{int, list, none, item, items_map, data_map, depth_of_all, weight_of_all, EachThing, EachThingOfAll, Kind}
-use Rattle.sg_value.specs.Plain.{Named, Things, AllKnown, IsKnown, contents, contents_of_all, plain, thing_at}
+use Rattle.sg_value.specs.Data.{int, list, none, item, items_map, depth_of_all, weight_of_all, EachThingOfAll, Kind}
+use Rattle.sg_value.specs.Plain.{Named, Things, contents, contents_of_all, plain, thing_at}
 use Rattle.sg_value.specs.declared.value.Value.{Value}
-use Rattle.sg_value.specs.declared.value.Value.TheVariants as value
 use Rattle.sg_rows.specs.Order.{Reply, fits, IsReply, Delivers}
 use Rattle.sg_rows.specs.Kinds.{as_integer, given, answers}
 use Rattle.sg_rows.specs.Words.{join}
@@ -17,9 +19,9 @@ use Rattle.sg_eval.specs.Entries.{integers_in}
 use Rattle.sg_eval.specs.Expressions.{ask}
 use Rattle.sg_eval.specs.Outcomes.{Evaluates}
 use Rattle.sg_eval.specs.Queries.{spans, span_of, span_count, integers_from}
+use Rattle.sg_eval.specs.Ranges.{IsRow, list_of_row, is_row}
 use Rattle.sg_eval.specs.State.{State}
 use Rattle.sg_eval.proofs.Evaluating.{keeps_all}
-use Rattle.sg_eval.proofs.Measured.{contents-List}
 
 -- one integer more
 pub integers_in-more : {H : Kind → Type 0} (z : ℤ) (n : ℕ) → join (integers_in {H = H} z n) (item (int (z +ℤ pos n)) none) ≡ integers_in z (suc n)
@@ -38,11 +40,11 @@ integers_pushed vs ws v z i is seen so_far =
     let next : suc i ≡ i + 1 = omega arith in
     ap contents_of_all is ∙ (contents-more vs v ∙ (ap (λ d. join (contents_of_all vs) (item d none)) seen ∙ (ap (λ ds. join ds (item (int (z +ℤ pos i)) none)) so_far ∙ (integers_in-more z i ∙ ap (integers_in z) next))))
 
-integers_map : {H : Kind → Type 0} (f : (k : Kind) → H k → Things k) (z : ℤ) (n : ℕ) → items_map f (integers_in z n) ≡ integers_from z n
+pub integers_map : {H : Kind → Type 0} (f : (k : Kind) → H k → Things k) (z : ℤ) (n : ℕ) → items_map f (integers_in z n) ≡ integers_from z n
 integers_map f z zero = refl
 integers_map f z (suc n) = ap (item (int z)) (integers_map f (z +ℤ pos 1) n)
 
-integers_known : {H : Kind → Type 0} (P : (k : Kind) → H k → Type 0) (z : ℤ) (n : ℕ) → EachThingOfAll P (integers_in z n)
+pub integers_known : {H : Kind → Type 0} (P : (k : Kind) → H k → Type 0) (z : ℤ) (n : ℕ) → EachThingOfAll P (integers_in z n)
 integers_known P z zero = tt
 integers_known P z (suc n) = (tt, integers_known P (z +ℤ pos 1) n)
 
@@ -73,14 +75,14 @@ module _ (x : ℤ) (k : ℕ) where
 integer_seen : (names : Named) (v : Value) (o : Option ℤ) → as_integer (contents v) ≡ o → as_integer (plain names v) ≡ o
 integer_seen names v o is = as_integer-plain (thing_at names) (contents v) ∙ is
 
-refused_as : (a b : Value) (s : State) (e : Fault) → ((names : Named) → IsReply (span_of (plain names a) (plain names b)) (Err e)) → Evaluates plain AllKnown (Err (Script e)) s s (λ names. ask (spans (plain names a) (plain names b)))
+refused_as : (a b : Value) (s : State) (e : Fault) → ((names : Named) → IsReply (span_of (plain names a) (plain names b)) (Err e)) → Evaluates list_of_row is_row (Err (Script e)) s s (λ names. ask (spans (plain names a) (plain names b)))
 refused_as a b s e h = record { keeps = keeps_all s.names; variables = refl; parameters = tt; is_known = tt; gives = λ final later. (Err e, h (named final), (refl, refl, refl)) }
 
-pub span_low : (a b : Value) (s : State) → as_integer (contents a) ≡ None → Evaluates plain AllKnown (Err (Script WrongType)) s s (λ names. ask (spans (plain names a) (plain names b)))
+pub span_low : (a b : Value) (s : State) → as_integer (contents a) ≡ None → Evaluates list_of_row is_row (Err (Script WrongType)) s s (λ names. ask (spans (plain names a) (plain names b)))
 span_low a b s is = refused_as a b s WrongType (λ names.
     subst (λ o. IsReply (given o (λ x. given (as_integer (plain names b)) (λ y. fits (answers (λ d. d ≡ list (integers_from x (span_count (y -ℤ x)))))))) (Err WrongType)) (sym (integer_seen names a None is)) refl)
 
-pub span_high : (a b : Value) (s : State) (x : ℤ) → as_integer (contents a) ≡ Some x → as_integer (contents b) ≡ None → Evaluates plain AllKnown (Err (Script WrongType)) s s (λ names. ask (spans (plain names a) (plain names b)))
+pub span_high : (a b : Value) (s : State) (x : ℤ) → as_integer (contents a) ≡ Some x → as_integer (contents b) ≡ None → Evaluates list_of_row is_row (Err (Script WrongType)) s s (λ names. ask (spans (plain names a) (plain names b)))
 span_high a b s x is_a is_b = refused_as a b s WrongType (λ names.
     subst (λ o. IsReply (given o (λ z. given (as_integer (plain names b)) (λ y. fits (answers (λ d. d ≡ list (integers_from z (span_count (y -ℤ z)))))))) (Err WrongType)) (sym (integer_seen names a (Some x) is_a))
     (subst (λ o. IsReply (given o (λ y. fits (answers (λ d. d ≡ list (integers_from x (span_count (y -ℤ x))))))) (Err WrongType)) (sym (integer_seen names b None is_b)) refl))
@@ -91,23 +93,30 @@ span_seen a b x y names r is_a is_b h =
     subst (λ o. IsReply (given o (λ z. given (as_integer (plain names b)) (λ y. fits (answers (λ d. d ≡ list (integers_from z (span_count (y -ℤ z)))))))) r) (sym (integer_seen names a (Some x) is_a))
     (subst (λ o. IsReply (given o (λ y. fits (answers (λ d. d ≡ list (integers_from x (span_count (y -ℤ x))))))) r) (sym (integer_seen names b (Some y) is_b)) h)
 
+within_at : (x y : ℤ) (d : ℤ) (n i : ℕ) → FitsSigned w64 x → FitsSigned w64 y → (y -ℤ x) ≡ d → n ≡ min (span_count d) (2 ^ 64 - 1) → i < n → FitsSigned w64 (x +ℤ pos i)
+within_at x y (pos k) n i fit_x fit_y is count h = let up : i ≤ k = omega (arith, count, h) in omega (arith, ints, is, up, fit_x, fit_y)
+within_at x y (negsuc k) n i fit_x fit_y is count h = absurd (omega (arith, count, h))
+
+pub row_within : (x y : ℤ) (n : ℕ) → FitsSigned w64 x → FitsSigned w64 y → n ≡ min (span_count (y -ℤ x)) (2 ^ 64 - 1) → n < 4194304 → IsRow (record { first = x; count = n })
+row_within x y n fit_x fit_y count light = record { few = light; within = λ i h. within_at x y (y -ℤ x) n i fit_x fit_y refl count h }
+
 module _ (a b : Value) (s : State) (x y : ℤ) (is_a : as_integer (contents a) ≡ Some x) (is_b : as_integer (contents b) ≡ Some y) (n : ℕ) (count : n ≡ min (span_count (y -ℤ x)) (2 ^ 64 - 1)) where
-  pub span_large : 4194304 ≤ n → Evaluates plain AllKnown (Err (Script TooLarge)) s s (λ names. ask (spans (plain names a) (plain names b)))
+  pub span_large : 4194304 ≤ n → Evaluates list_of_row is_row (Err (Script TooLarge)) s s (λ names. ask (spans (plain names a) (plain names b)))
   span_large heavy = refused_as a b s TooLarge (λ names. span_seen a b x y names (Err TooLarge) is_a is_b (spanned_large x (span_count (y -ℤ x)) (omega (arith, count, heavy))))
 
-  pub span_fine : (vs : Vec Value Global) → n < 4194304 → contents_of_all vs.items ≡ integers_in x n → Evaluates plain AllKnown (Ok (value.List vs)) s s (λ names. ask (spans (plain names a) (plain names b)))
-  span_fine vs light is =
+  pub span_fine : (row : IsRow (record { first = x; count = n })) → Evaluates list_of_row is_row (Ok (record { first = x; count = n })) s s (λ names. ask (spans (plain names a) (plain names b)))
+  span_fine row =
+      let light : n < 4194304 = row.few in
       let k = span_count (y -ℤ x) in
       let same : n ≡ k = omega (arith, count, light) in
-      let seen : contents (value.List vs) ≡ list (integers_in x k) = contents-List vs ∙ ap list (is ∙ ap (integers_in x) same) in
       record {
         keeps = keeps_all s.names;
         variables = refl;
         parameters = refl;
-        is_known = subst (EachThing (IsKnown (named s.names))) (sym seen) (integers_known (IsKnown (named s.names)) x k);
+        is_known = row;
         gives = λ final later. (
           Ok (list (integers_from x k)),
           span_seen a b x y (named final) (Ok (list (integers_from x k))) is_a is_b (spanned_fine x k (omega (arith, same, light))),
-          (ap Ok (ap (data_map (thing_at (named final))) seen ∙ ap list (integers_map (thing_at (named final)) x k)), refl, refl),
+          (ap (λ m. Ok (list (integers_from x m))) same, refl, refl),
         );
       }

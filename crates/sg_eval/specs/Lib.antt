@@ -6,6 +6,7 @@ pub mod Queries
 pub mod Process
 pub mod Outcomes
 pub mod Truths
+pub mod AtOnce
 pub mod Entries
 pub mod Expressions
 pub mod Linked
@@ -15,3 +16,4 @@ pub mod Statements
 pub mod Steps
 pub mod Laws
 pub mod Lawful
+pub mod Ranges

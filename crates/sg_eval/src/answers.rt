@@ -11,9 +11,11 @@ ghost use Rattle.sg_eval.specs.Expressions.{ask, decided, listed};
 ghost use Rattle.sg_eval.specs.Process.{gives};
 ghost use Rattle.sg_eval.specs.Truths.{itself, no_semigroup};
 ghost use Rattle.sg_eval.specs.Entries.{entry_from, as_natural, integers_in};
+ghost use Rattle.sg_eval.specs.Ranges.{IsRow, list_of_row, is_row, ranged, entries_in, are_known};
 ghost use Rattle.sg_eval.specs.State.{State};
 ghost use Rattle.sg_eval.specs.Outcomes.{Evaluates, plain_in, known_in};
 
+use crate::entries::{Entries, Range};
 use crate::kinds::{entries_of, integer_of, into_entries, truth_of};
 use sg_calls::{CallFault, Fault, negate};
 use sg_value::{Value, depth, try_clone, weight};
@@ -118,9 +120,10 @@ pub fn put(values: &mut Vec<Value>, value: Value) -> Result<(), AllocError>
     Ok(())
 }
 
-/// The list of the integers from the first to the second, within the limits.
-pub fn span(alloc: Global, low: &Value, high: &Value) -> Result<Value, CallFault>
-    ensures { (s : State) → Evaluates plain AllKnown result s s (λ names. ask (spans (plain names low.now) (plain names high.now))) }
+/// The integers from the first to the second, within the limits.
+fn row(low: &Value, high: &Value) -> Result<Range, CallFault>
+    ensures within { IfOk result IsRow }
+    ensures row { (s : State) → Evaluates list_of_row is_row result s s (λ names. ask (spans (plain names low.now) (plain names high.now))) }
 {
     let Some(first) = integer_of(low) else {
         return Err(CallFault::Script(Fault::WrongType));
@@ -132,7 +135,22 @@ pub fn span(alloc: Global, low: &Value, high: &Value) -> Result<Value, CallFault
     if count >= WEIGHT_LIMIT {
         return Err(CallFault::Script(Fault::TooLarge));
     }
-    Ok(Value::List(integers_from(alloc, first, count)?))
+    Ok(Range { first, count })
+}
+
+/// The list of the integers from the first to the second, within the limits.
+pub fn span(alloc: Global, low: &Value, high: &Value) -> Result<Value, CallFault>
+    ensures { (s : State) → Evaluates plain AllKnown result s s (λ names. ask (spans (plain names low.now) (plain names high.now))) }
+{
+    let range = row(low, high)?;
+    Ok(Value::List(integers_from(alloc, range.first, range.count)?))
+}
+
+/// The same integers, as what a loop goes over.
+pub fn range(low: &Value, high: &Value) -> Result<Entries, CallFault>
+    ensures { (s : State) → Evaluates entries_in are_known result s s (λ names. ranged (plain names low.now) (plain names high.now)) }
+{
+    Ok(Entries::Counted(row(low, high)?))
 }
 
 /// How many integers there are from the first to the last, 2^64 - 1 where there are more.

@@ -16,6 +16,7 @@ ghost use Rattle.sg_eval.specs.Machine.{state_of};
 use crate::answers::{index, list_of, put, span};
 use crate::folding::{Folding, entries_if, finished, folding_named, gather, goes_on};
 use crate::given::with_one;
+use crate::integers::{integer, truth};
 use crate::links::{ends_chain, operator_of, relation_of, truth_itself};
 use crate::machine::Machine;
 use crate::signs::{negated, turned};
@@ -28,6 +29,21 @@ use std::alloc::Global;
 /// The value of an expression.
 #[cycle(eval)]
 pub fn eval(alloc: Global, machine: &mut Machine, e: &Expr) -> Result<Value, CallFault>
+    ensures { Evaluates plain AllKnown result (state_of machine.old) (state_of machine.new) (λ names. meaning (state_of machine.old).parameters (tree_of e.now)) }
+{
+    if let Some(z) = integer(machine, e) {
+        return Ok(Value::Int(z));
+    }
+    if let Some(b) = truth(machine, e) {
+        return Ok(Value::Bool(b));
+    }
+    eval_any(alloc, machine, e)
+}
+
+/// The value of an expression of any form.
+#[inline(never)]
+#[cycle(eval)]
+fn eval_any(alloc: Global, machine: &mut Machine, e: &Expr) -> Result<Value, CallFault>
     ensures { Evaluates plain AllKnown result (state_of machine.old) (state_of machine.new) (λ names. meaning (state_of machine.old).parameters (tree_of e.now)) }
 {
     match e {
@@ -53,26 +69,13 @@ pub fn eval(alloc: Global, machine: &mut Machine, e: &Expr) -> Result<Value, Cal
         Expr::Minus(count, operand) => minus_of(alloc, machine, operand, *count),
         Expr::Not(count, operand) => not_of(alloc, machine, operand, *count),
         Expr::Chain(first, links) => {
-            let value = operand_of(alloc, machine, first)?;
+            let value = eval(alloc, machine, first)?;
             chain(alloc, machine, links, value)
         }
         Expr::Compare(relation, left, right) => {
-            let a = operand_of(alloc, machine, left)?;
+            let a = eval(alloc, machine, left)?;
             compared(alloc, machine, right, relation_of(*relation), &a)
         }
-    }
-}
-
-/// The value of an operand. An integer and a name, which most operands are, need no call of `eval`.
-#[inline(always)]
-#[cycle(eval)]
-fn operand_of(alloc: Global, machine: &mut Machine, e: &Expr) -> Result<Value, CallFault>
-    ensures { Evaluates plain AllKnown result (state_of machine.old) (state_of machine.new) (λ names. meaning (state_of machine.old).parameters (tree_of e.now)) }
-{
-    match e {
-        Expr::Int(z) => Ok(Value::Int(*z)),
-        Expr::Var(name) => machine.named(alloc, name.as_slice()),
-        _ => eval(alloc, machine, e),
     }
 }
 
@@ -225,7 +228,7 @@ fn next_item(
         Some(value) => item_at(alloc, machine, place, value),
         None => {
             machine.check_named(name)?;
-            let at = operand_of(alloc, machine, place)?;
+            let at = eval(alloc, machine, place)?;
             machine.entry(alloc, name, &at)
         }
     }
@@ -247,7 +250,7 @@ fn compared(
     if let Expr::Var(name) = right {
         return machine.combine_named(alloc, op, left, name.as_slice());
     }
-    let b = operand_of(alloc, machine, right)?;
+    let b = eval(alloc, machine, right)?;
     machine.combine(alloc, op, left, &b)
 }
 
@@ -262,7 +265,7 @@ fn item_at(
     requires { AllKnown (named (state_of machine.old).names) list }
     ensures { Evaluates plain AllKnown result (state_of machine.old) (state_of machine.new) (λ names. placed (state_of machine.old).parameters (plain names list) (tree_of place.now)) }
 {
-    let at = operand_of(alloc, machine, place)?;
+    let at = eval(alloc, machine, place)?;
     index(alloc, &list, &at)
 }
 

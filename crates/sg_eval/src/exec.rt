@@ -10,12 +10,16 @@ ghost use Rattle.sg_tree.specs.Tree.{assign as assigning};
 ghost use Rattle.sg_eval.specs.Process.{sets};
 ghost use Rattle.sg_eval.specs.Statements.{exec as meaning, exec_all as meaning_of_all, done, over};
 ghost use Rattle.sg_eval.specs.Steps.{Executed, arm_done, held, listed_of, print_done, printed_arguments, IsOutside, IsInside};
-ghost use Rattle.sg_eval.specs.Outcomes.{Evaluates, plain_in, known_in};
+ghost use Rattle.sg_eval.specs.Outcomes.{Evaluates};
+ghost use Rattle.sg_eval.specs.Queries.{integers_from};
+ghost use Rattle.sg_eval.specs.Ranges.{IsRow, entries_in, are_known};
 ghost use Rattle.sg_eval.specs.Truths.{itself, no_semigroup};
 ghost use Rattle.sg_eval.specs.Machine.{state_of};
 
-use crate::answers::{decide, entries};
+use crate::answers::{decide, entries, range};
+use crate::entries::{Entries, Range};
 use crate::eval::{eval, given};
+use crate::integers::integer;
 use crate::machine::Machine;
 use crate::step_fault::StepFault;
 use sg_calls::{CallFault, Fault};
@@ -49,8 +53,10 @@ pub fn exec<W: Sink>(
             exec_all(alloc, machine, other, out)
         }
         Stmt::For(name, e, body) => {
-            let entries = list_of(alloc, machine, e)?;
-            repeat(alloc, machine, body, name, &entries, out)
+            match list_of(alloc, machine, e)? {
+                Entries::Listed(entries) => repeat(alloc, machine, body, name, &entries, out),
+                Entries::Counted(range) => count_up(alloc, machine, body, name, range, out),
+            }
         }
         Stmt::Do(e) => perform(alloc, machine, e, out),
     }
@@ -120,12 +126,39 @@ fn repeat<W: Sink>(
     Ok(())
 }
 
+/// Does a block for each integer of a range, which the variable has meanwhile.
+#[cycle(exec)]
+fn count_up<W: Sink>(
+    alloc: Global,
+    machine: &mut Machine,
+    body: &[Stmt],
+    name: &Bytes,
+    range: Range,
+    out: &mut W,
+) -> Result<(), StepFault>
+    requires parameters { (state_of machine.old).parameters ≡ [] }
+    requires range { IsRow range }
+    ensures done { Executed result (state_of machine.old) (state_of machine.new) (W.taken out.old) (W.taken out.new) (over (λ e. sets name.now e (meaning_of_all (block_of body.now))) (integers_from range.first range.count)) }
+    ensures cause { HasCauseAt StepFault.Write (W.faults out.old) (W.faults out.new) result }
+    ensures sure { W.sure out.new ≡ W.sure out.old }
+{
+    for i in 0..range.count {
+        machine.set_integer(alloc, name, range.first + i as i64)?;
+        exec_all(alloc, machine, body, out)?;
+    }
+    Ok(())
+}
+
 /// Gives a variable the value of an expression.
 fn assign(alloc: Global, machine: &mut Machine, name: &Bytes, e: &Expr) -> Result<(), StepFault>
     requires { (state_of machine.old).parameters ≡ [] }
     ensures done { (taken : Option (List ℕ)) → Executed result (state_of machine.old) (state_of machine.new) taken taken (meaning (assigning name.now (tree_of e.now))) }
     ensures kind { IfErr result IsInside }
 {
+    if let Some(z) = integer(machine, e) {
+        machine.set_integer(alloc, name, z)?;
+        return Ok(());
+    }
     let value = eval(alloc, machine, e)?;
     machine.set(alloc, name, value)?;
     Ok(())
@@ -139,10 +172,16 @@ fn holds(alloc: Global, machine: &mut Machine, test: &Expr) -> Result<bool, Call
 }
 
 /// The entries of a list.
-fn list_of(alloc: Global, machine: &mut Machine, e: &Expr) -> Result<Vec<Value>, CallFault>
-    ensures { Evaluates plain_in known_in result (state_of machine.old) (state_of machine.new) (λ names. listed_of (state_of machine.old).parameters (tree_of e.now)) }
+fn list_of(alloc: Global, machine: &mut Machine, e: &Expr) -> Result<Entries, CallFault>
+    ensures { Evaluates entries_in are_known result (state_of machine.old) (state_of machine.new) (λ names. listed_of (state_of machine.old).parameters (tree_of e.now)) }
 {
-    entries(eval(alloc, machine, e)?)
+    if let Expr::Span(low, high) = e {
+        let a = eval(alloc, machine, low)?;
+        let b = eval(alloc, machine, high)?;
+        return range(&a, &b);
+    }
+    let value = eval(alloc, machine, e)?;
+    Ok(Entries::Listed(entries(value)?))
 }
 
 /// The arguments of a call of `Print`.

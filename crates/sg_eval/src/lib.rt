@@ -10,10 +10,12 @@
 #![tactic(auto)]
 
 mod answers;
+mod entries;
 mod eval;
 mod exec;
 mod folding;
 mod given;
+mod integers;
 mod kinds;
 pub mod laws;
 mod links;

@@ -6,8 +6,9 @@ ghost use Rattle.sg_value.specs.Known.{named};
 ghost use Rattle.sg_eval.specs.KnownFacts.{are_known-prop};
 
 use crate::answers::index;
-use crate::variable::Variable;
-use crate::variables::{Variables, find_in, set};
+use crate::kinds::integer_of;
+use crate::variable::{Variable, find};
+use crate::variables::{Variables, find_in, set, set_integer, value_of};
 use indexmap::IndexMap;
 use sg_calls::{CallFault, Operator, answer, combine};
 use sg_nat::Bytes;
@@ -26,7 +27,7 @@ pub struct Machine {
 }
 
 impl Machine {
-    ghost use Rattle.std.specs.Prelude.{◌≡◌, ◌∷◌, ◌++◌, ℕ, List, [], None, length, slice_get, IfOk, OnOk, OnErr};
+    ghost use Rattle.std.specs.Prelude.{◌≡◌, ◌∷◌, ◌++◌, ℕ, List, [], None, length, slice_get, IfOk, IfSome, OnOk, OnErr};
     ghost use Rattle.std.specs.Map.{lookup};
     ghost use Rattle.std.specs.Str.{bytes_eq};
     ghost use Rattle.sg_value.specs.Plain.{AllKnown, AllKnownIn, plain, plain_of_all};
@@ -39,6 +40,8 @@ impl Machine {
     ghost use Rattle.sg_eval.specs.Outcomes.{Evaluates, Finds};
     ghost use Rattle.sg_eval.specs.Linked.{entry_of, combined_with};
     ghost use Rattle.sg_eval.specs.Machine.{state_of};
+    ghost use Rattle.sg_eval.specs.AtOnce.{GivesInteger};
+    ghost use Rattle.sg_value.specs.Data.{int};
 
     /// A machine over these semigroups, in which no variable has a value.
     pub fn new(alloc: Global, store: Store) -> Machine
@@ -59,6 +62,17 @@ impl Machine {
     {
         let value = find_in(&self.parameters, &self.variables, name)?;
         Ok(try_clone(value, alloc)?)
+    }
+
+    /// The integer of a parameter, or else of a variable, where its value is one.
+    #[inline(always)]
+    pub fn integer_named(&self, name: &[u8]) -> Option<i64>
+        ensures { IfSome result (GivesInteger (state_of self.now) (λ names. looked_up (lookup (bytes_eq name.now) (state_of self.now).parameters) name.now)) }
+    {
+        if let Some(value) = find(&self.parameters, name) {
+            return integer_of(value);
+        }
+        integer_of(value_of(&self.variables, name)?)
     }
 
     /// Whether a parameter or a variable of this name has a value.
@@ -165,6 +179,17 @@ impl Machine {
         ensures parameters { (state_of self.new).parameters ≡ (state_of self.old).parameters }
     {
         set(alloc, &mut self.variables, name.as_slice(), value)
+    }
+
+    /// A variable gets an integer.
+    #[inline(always)]
+    pub fn set_integer(&mut self, alloc: Global, name: &Bytes, z: i64) -> Result<(), AllocError>
+        ensures names { (state_of self.new).names ≡ (state_of self.old).names }
+        ensures ok { OnOk result ((state_of self.new).variables ≡ with_value name.now (int z) (state_of self.old).variables) }
+        ensures err { OnErr result ((state_of self.new).variables ≡ (state_of self.old).variables) }
+        ensures parameters { (state_of self.new).parameters ≡ (state_of self.old).parameters }
+    {
+        set_integer(alloc, &mut self.variables, name.as_slice(), z)
     }
 
     /// The texts of the values, one after the other.

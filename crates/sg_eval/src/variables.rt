@@ -8,7 +8,8 @@ ghost use Rattle.sg_value.specs.declared.value.Value.{Value};
 ghost use Rattle.sg_value.specs.Known.{Known, named};
 ghost use Rattle.std.specs.Map.{lookup};
 ghost use Rattle.std.specs.Str.{bytes_eq};
-ghost use Rattle.sg_value.specs.Plain.{AllKnown, plain};
+ghost use Rattle.sg_value.specs.Plain.{AllKnown, contents, plain};
+ghost use Rattle.sg_value.specs.Data.{int};
 ghost use Rattle.sg_eval.specs.State.{State, vars_of, values_of, AreKnown, AreKnownIn};
 ghost use Rattle.sg_eval.specs.Expressions.{looked_up};
 ghost use Rattle.sg_eval.specs.Outcomes.{Evaluates, plain_of, known_of};
@@ -79,6 +80,36 @@ pub fn set(
     }
     variables.insert(name.to_vec(alloc)?, value)?;
     Ok(())
+}
+
+/// Puts an integer in the place of a value. Where that is an integer too, there is nothing to drop.
+#[inline(always)]
+fn put_integer(value: &mut Value, z: i64)
+    ensures { contents value.new ≡ int z }
+{
+    if let Value::Int(x) = value {
+        *x = z;
+        return;
+    }
+    *value = Value::Int(z);
+}
+
+/// Gives a variable an integer.
+pub fn set_integer(
+    alloc: Global,
+    variables: &mut Variables,
+    name: &[u8],
+    z: i64,
+) -> Result<(), AllocError>
+    ensures ok { OnOk result ((names : Known) → values_of names variables.new.entries ≡ with_value name.now (int z) (values_of names variables.old.entries)) }
+    ensures known { OnOk result ((names : Known) → AreKnownIn names variables.old.entries → AreKnownIn names variables.new.entries) }
+    ensures err { OnErr result (variables.new.entries ≡ variables.old.entries) }
+{
+    if let Some(place) = near(variables, name) {
+        put_integer(variables.get_index_mut(place).unwrap(), z);
+        return Ok(());
+    }
+    set(alloc, variables, name, Value::Int(z))
 }
 
 /// The value of a parameter, or else of a variable.

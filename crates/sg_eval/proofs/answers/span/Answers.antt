@@ -1,37 +1,34 @@
-use Rattle.std.proofs.Common.{◌≡◌, ◌-ℤ◌, ◌-◌, ◌^◌, min, sym, rules}
+use Rattle.std.proofs.Common.{◌≡◌, ℕ, ◌<◌, pos, ◌+ℤ◌, sym, subst, rules}
 use Rattle.std.specs.Prelude.{FitsSigned}
 use Rattle.std.specs.Int.{w64}
-use Rattle.sg_value.specs.Plain.{contents_of_all}
-use Rattle.sg_rows.proofs.Signed.{of_bits, of_bits_right}
+use Rattle.std.proofs.lemmas.Int.{to_z-of_z}
+use Rattle.sg_value.specs.Plain.{AllKnown, contents_of_all, plain}
+use Rattle.sg_rows.proofs.Signed.{of_bits_right}
 use Rattle.sg_eval.specs.Entries.{integers_in}
-use Rattle.sg_eval.specs.Queries.{span_count}
-use Rattle.sg_eval.proofs.Spanned.{span_low, span_high, span_large, span_fine}
+use Rattle.sg_eval.specs.Expressions.{ask}
+use Rattle.sg_eval.specs.Queries.{spans}
+use Rattle.sg_eval.specs.Ranges.{list_of_row, is_row}
+use Rattle.sg_eval.proofs.Ranged.{exit_as, row_listed}
 use Rattle.sg_eval.proofs.answers.span.Goals as goal
 
-pub returns-in_default : goal.returns-in_default
-returns-in_default c = λ s. span_low c.args.low.now c.args.high.now s (sym c.in_default.ensures)
+pub integers_from-requires-clause-within : goal.integers_from-requires-clause-within
+integers_from-requires-clause-within c =
+    let z = c.in_ok-range.range.first in
+    let fit : FitsSigned w64 z = search rules in
+    subst (λ y. (i : ℕ) → i < c.in_ok-range.range.count → FitsSigned w64 (y +ℤ pos i)) (sym (to_z-of_z w64 z fit)) c.in_ok-range.ensures.within.within
 
-pub returns-in_default-integer_of : goal.returns-in_default-integer_of
-returns-in_default-integer_of c = λ s. span_high c.args.low.now c.args.high.now s c.in-Some.first (sym c.in-Some.ensures) (sym c.in_default-integer_of.ensures)
+pub integers_from-requires-clause-small : goal.integers_from-requires-clause-small
+integers_from-requires-clause-small c = c.in_ok-range.ensures.within.few
 
-pub returns-then-count-ge-WEIGHT_LIMIT : goal.returns-then-count-ge-WEIGHT_LIMIT
-returns-then-count-ge-WEIGHT_LIMIT c = λ s.
-    let x = c.in-Some.first in
-    let y = c.in-Some-integer_of.last in
-    let n = c.count_between-count.result in
-    let fit_x : FitsSigned w64 x = search rules in
-    let fit_y : FitsSigned w64 y = search rules in
-    let count : n ≡ min (span_count (y -ℤ x)) (2 ^ 64 - 1) = of_bits (λ a b. n ≡ min (span_count (b -ℤ a)) (2 ^ 64 - 1)) x y fit_x fit_y c.count_between-count.ensures in
-    span_large c.args.low.now c.args.high.now s x y (sym c.in-Some.ensures) (sym c.in-Some-integer_of.ensures) n count c.if-count-ge-WEIGHT_LIMIT.true
+pub returns-in_err-range : goal.returns-in_err-range
+returns-in_err-range c = λ s.
+    exit_as list_of_row is_row plain AllKnown c.from_residual.result _ s s (λ names. ask (spans (plain names c.args.low.now) (plain names c.args.high.now))) c.from_residual.ensures.1 (c.in_err-range.ensures.row s)
 
 pub returns : goal.returns
 returns c = λ s.
-    let x = c.in-Some.first in
-    let y = c.in-Some-integer_of.last in
-    let n = c.count_between-count.result in
+    let z = c.in_ok-range.range.first in
+    let n = c.in_ok-range.range.count in
     let vs = c.in_ok-integers_from.field-0 in
-    let fit_x : FitsSigned w64 x = search rules in
-    let fit_y : FitsSigned w64 y = search rules in
-    let count : n ≡ min (span_count (y -ℤ x)) (2 ^ 64 - 1) = of_bits (λ a b. n ≡ min (span_count (b -ℤ a)) (2 ^ 64 - 1)) x y fit_x fit_y c.count_between-count.ensures in
-    let is : contents_of_all vs.items ≡ integers_in x n = of_bits_right (λ a. contents_of_all vs.items ≡ integers_in a n) x fit_x c.in_ok-integers_from.ensures in
-    span_fine c.args.low.now c.args.high.now s x y (sym c.in-Some.ensures) (sym c.in-Some-integer_of.ensures) n count vs c.if-count-ge-WEIGHT_LIMIT.false is
+    let fit : FitsSigned w64 z = search rules in
+    let is : contents_of_all vs.items ≡ integers_in z n = of_bits_right (λ a. contents_of_all vs.items ≡ integers_in a n) z fit c.in_ok-integers_from.ensures in
+    row_listed c.in_ok-range.range c.in_ok-integers_from.field-0 s s (λ names. ask (spans (plain names c.args.low.now) (plain names c.args.high.now))) (c.in_ok-range.ensures.row s) is

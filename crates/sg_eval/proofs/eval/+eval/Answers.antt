@@ -1,4 +1,8 @@
 use Rattle.std.proofs.Common.{◌≡◌, get_or, rules, ◌+◌, ◌∷◌, Ok, Err, Some, None, true, false, length, drop, refl, ap, sym, ◌∙◌, subst}
+use Rattle.std.specs.Prelude.{FitsSigned}
+use Rattle.std.specs.Int.{w64}
+use Rattle.std.proofs.lemmas.Int.{to_z-of_z}
+use Rattle.sg_value.specs.declared.value.Value.TheVariants as value
 use Rattle.sg_value.specs.Known.{named}
 use Rattle.sg_value.specs.Data.{truth}
 use Rattle.sg_value.specs.Plain.{AllKnown, AllKnownIn, plain, plain_of_all}
@@ -55,7 +59,7 @@ pub item_at-returns : goal.item_at-returns
 item_at-returns t c =
     let ps = (state_of c.args.machine.now).parameters in
     let s = state_of c.args.machine.now in
-    let s1 = state_of c.operand_of.new.machine in
+    let s1 = state_of c.eval.new.machine in
     let e = c.in_ok-at.ensures in
     evaluates_then plain AllKnown plain AllKnown c.in_ok-at.at c.index.result s s1 s1 (λ names. eval ps (tree_of c.args.place.now)) (λ names i. ask (indexes (plain names c.args.list) i)) e
     (c.index.ensures s1 (known_later s.names s1.names c.args.list e.keeps c.requires))
@@ -69,15 +73,15 @@ compared-returns-in-Var t c =
 pub compared-returns-in_err-b : goal.compared-returns-in_err-b
 compared-returns-in_err-b t c =
     let s = state_of c.args.machine.now in
-    evaluates_exit plain AllKnown plain AllKnown c.from_residual.result _ s (state_of c.operand_of.new.machine) (λ names. eval s.parameters (tree_of c.args.right.now)) (λ names b. ask (combines c.args.op (plain names c.args.left.now) b)) c.from_residual.ensures.1 c.in_err-b.ensures
+    evaluates_exit plain AllKnown plain AllKnown c.from_residual.result _ s (state_of c.eval.new.machine) (λ names. eval s.parameters (tree_of c.args.right.now)) (λ names b. ask (combines c.args.op (plain names c.args.left.now) b)) c.from_residual.ensures.1 c.in_err-b.ensures
 
 pub compared-combine-requires-clause-left : goal.compared-combine-requires-clause-left
-compared-combine-requires-clause-left t c = known_later c.args.machine.now.store c.operand_of.new.machine.store c.args.left.now c.in_ok-b.ensures.keeps c.requires
+compared-combine-requires-clause-left t c = known_later c.args.machine.now.store c.eval.new.machine.store c.args.left.now c.in_ok-b.ensures.keeps c.requires
 
 pub compared-returns : goal.compared-returns
 compared-returns t c =
     let s = state_of c.args.machine.now in
-    let s1 = state_of c.operand_of.new.machine in
+    let s1 = state_of c.eval.new.machine in
     evaluates_then plain AllKnown plain AllKnown c.in_ok-b.b c.combine.result s s1 (state_of c.combine.new.self) (λ names. eval s.parameters (tree_of c.args.right.now)) (λ names b. ask (combines c.args.op (plain names c.args.left.now) b)) c.in_ok-b.ensures c.combine.ensures
 
 pub next_item-returns-in-Some : goal.next_item-returns-in-Some
@@ -99,7 +103,7 @@ next_item-returns-in_err-check_named-in-None t c =
 pub next_item-returns-in_err-at-in-None : goal.next_item-returns-in_err-at-in-None
 next_item-returns-in_err-at-in-None t c =
     let s = state_of c.args.machine.now in
-    let s1 = state_of c.operand_of.new.machine in
+    let s1 = state_of c.eval.new.machine in
     let ps = s.parameters in
     let x = c.args.name.now in
     let t1 = tree_of c.args.place.now in
@@ -112,7 +116,7 @@ next_item-returns-in_err-at-in-None t c =
 pub next_item-returns-in_ok-at-in-None : goal.next_item-returns-in_ok-at-in-None
 next_item-returns-in_ok-at-in-None t c =
     let s = state_of c.args.machine.now in
-    let s1 = state_of c.operand_of.new.machine in
+    let s1 = state_of c.eval.new.machine in
     let ps = s.parameters in
     let x = c.args.name.now in
     let t1 = tree_of c.args.place.now in
@@ -183,14 +187,14 @@ named_item-returns-in-None t c =
     (evaluates_as plain AllKnown r s s (λ names. start_of ps x None) (λ names. items_from ps x None no_trees) (λ names. sym (right_unit (start_of ps x None)))
     (subst (λ qs. Evaluates plain AllKnown r s s (λ names. start_of qs x None)) inv.same c.named.ensures))))
 
-pub eval-returns-in-Var : goal.eval-returns-in-Var
-eval-returns-in-Var t c =
+pub eval_any-returns-in-Var : goal.eval_any-returns-in-Var
+eval_any-returns-in-Var t c =
     let s = state_of c.args.machine.now in
     let seen = ap tree_of c.in-Var.is ∙ (view-Var c.in-Var.name ∙ ap variable (sym c.as_slice.ensures)) in
     subst (λ x. Evaluates plain AllKnown c.named.result s s (λ names. eval s.parameters x)) (sym seen) c.named.ensures
 
-pub eval-returns-in-Display : goal.eval-returns-in-Display
-eval-returns-in-Display t c =
+pub eval_any-returns-in-Display : goal.eval_any-returns-in-Display
+eval_any-returns-in-Display t c =
     let s = state_of c.args.machine.now in
     let seen = ap tree_of c.in-Display.is ∙ (view-Display c.in-Display.entries ∙ ap (λ es. display (trees_of es)) (sym c.deref-in-Display.ensures.value)) in
     subst (λ x. Evaluates plain AllKnown c.display.result s (state_of c.display.new.machine) (λ names. eval s.parameters x)) (sym seen) c.display.ensures
@@ -555,8 +559,8 @@ apply-returns-in_err-value t c =
     (λ final later. ap (λ ps. eval ps tree) (bound ∙ ap (λ d. (x, d) ∷ s.parameters) (copy_plain (named s.names) v w c.in_ok-copy.ensures ∙ sym (plain_later s.names final v later c.requires))))
     (evaluates_bound_exit plain AllKnown plain AllKnown r _ s s1 s2 (λ names. eval s1.parameters tree) c.in_ok-bind.ensures.names c.in_ok-bind.ensures.variables c.from_residual-in_err-value.ensures.1 c.in_err-value.ensures)
 
-pub eval-returns-in-Call : goal.eval-returns-in-Call
-eval-returns-in-Call t c =
+pub eval_any-returns-in-Call : goal.eval_any-returns-in-Call
+eval_any-returns-in-Call t c =
     let s = state_of c.args.machine.now in
     let s1 = state_of c.call.new.machine in
     let seen = ap tree_of c.in-Call.is ∙ (view-Call c.in-Call.name c.in-Call.args
@@ -811,15 +815,15 @@ not_of-returns t c =
     let s1 = state_of c.eval.new.machine in
     evaluates_then plain AllKnown plain AllKnown c.in_ok-eval.field-0 c.turned.result s s1 s1 (λ names. eval s.parameters (tree_of c.args.operand.now)) (λ names d. decided d (λ b. gives (truth (turned c.args.count b)))) c.in_ok-eval.ensures (c.turned.ensures s1)
 
-pub eval-returns-in-Minus : goal.eval-returns-in-Minus
-eval-returns-in-Minus t c =
+pub eval_any-returns-in-Minus : goal.eval_any-returns-in-Minus
+eval_any-returns-in-Minus t c =
     let s = state_of c.args.machine.now in
     let n = c.in-Minus.count in
     let seen = ap tree_of c.in-Minus.is ∙ (view-Minus n c.in-Minus.operand ∙ ap (λ x. minus n (tree_of x)) (sym c.deref-in-Minus.ensures)) in
     subst (λ x. Evaluates plain AllKnown c.minus_of.result s (state_of c.minus_of.new.machine) (λ names. eval s.parameters x)) (sym seen) c.minus_of.ensures
 
-pub eval-returns-in-Not : goal.eval-returns-in-Not
-eval-returns-in-Not t c =
+pub eval_any-returns-in-Not : goal.eval_any-returns-in-Not
+eval_any-returns-in-Not t c =
     let s = state_of c.args.machine.now in
     let n = c.in-Not.count in
     let seen = ap tree_of c.in-Not.is ∙ (view-Not n c.in-Not.operand ∙ ap (λ x. negation n (tree_of x)) (sym c.deref-in-Not.ensures)) in
@@ -860,8 +864,8 @@ linked-returns-in_ok-eval-in-None t c =
     (evaluates_as plain AllKnown r s1 s1 (λ names. decided (plain names w) (λ b. gives (plain names w))) (λ names. link_rest op (plain names v) (plain names w))
     (λ names. rest_decides op (plain names v) (plain names w) (sym c.in-None.ensures)) (c.truth_itself.ensures s1 h.is_known)))
 
-pub eval-returns-in_err-value-in-Item : goal.eval-returns-in_err-value-in-Item
-eval-returns-in_err-value-in-Item t c =
+pub eval_any-returns-in_err-value-in-Item : goal.eval_any-returns-in_err-value-in-Item
+eval_any-returns-in_err-value-in-Item t c =
     let s = state_of c.args.machine.now in
     let ps = s.parameters in
     let list = tree_of c.deref-in-Item-2.result.now in
@@ -871,8 +875,8 @@ eval-returns-in_err-value-in-Item t c =
     subst (λ x. Evaluates plain AllKnown r s (state_of c.eval-in-Item.new.machine) (λ names. eval ps x)) (sym seen)
     (evaluates_exit plain AllKnown plain AllKnown r _ s (state_of c.eval-in-Item.new.machine) (λ names. eval ps list) (λ names d. eval_places ps d places) c.from_residual-in_err-value-in-Item.ensures.1 c.in_err-value-in-Item.ensures)
 
-pub eval-returns-in_ok-value-in-Item : goal.eval-returns-in_ok-value-in-Item
-eval-returns-in_ok-value-in-Item t c =
+pub eval_any-returns-in_ok-value-in-Item : goal.eval_any-returns-in_ok-value-in-Item
+eval_any-returns-in_ok-value-in-Item t c =
     let s = state_of c.args.machine.now in
     let s1 = state_of c.eval-in-Item.new.machine in
     let s2 = state_of c.item.new.machine in
@@ -885,10 +889,10 @@ eval-returns-in_ok-value-in-Item t c =
     subst (λ x. Evaluates plain AllKnown r s s2 (λ names. eval ps x)) (sym seen)
     (evaluates_on plain AllKnown plain AllKnown c.in_ok-value-in-Item.value r s s1 s2 (λ names. eval ps list) (λ qs names d. eval_places qs d places) c.in_ok-value-in-Item.ensures c.item.ensures)
 
-pub eval-returns-in_err-value-in-Chain : goal.eval-returns-in_err-value-in-Chain
-eval-returns-in_err-value-in-Chain t c =
+pub eval_any-returns-in_err-value-in-Chain : goal.eval_any-returns-in_err-value-in-Chain
+eval_any-returns-in_err-value-in-Chain t c =
     let s = state_of c.args.machine.now in
-    let s1 = state_of c.operand_of.new.machine in
+    let s1 = state_of c.eval-in-Chain.new.machine in
     let ps = s.parameters in
     let first = tree_of c.deref-in-Chain.result.now in
     let ls = links_of c.in-Chain.links.items in
@@ -897,10 +901,10 @@ eval-returns-in_err-value-in-Chain t c =
     subst (λ x. Evaluates plain AllKnown r s s1 (λ names. eval ps x)) (sym seen)
     (evaluates_exit plain AllKnown plain AllKnown r _ s s1 (λ names. eval ps first) (λ names d. eval_links ps d ls) c.from_residual-in_err-value-in-Chain.ensures.1 c.in_err-value-in-Chain.ensures)
 
-pub eval-returns-in_ok-value-in-Chain : goal.eval-returns-in_ok-value-in-Chain
-eval-returns-in_ok-value-in-Chain t c =
+pub eval_any-returns-in_ok-value-in-Chain : goal.eval_any-returns-in_ok-value-in-Chain
+eval_any-returns-in_ok-value-in-Chain t c =
     let s = state_of c.args.machine.now in
-    let s1 = state_of c.operand_of.new.machine in
+    let s1 = state_of c.eval-in-Chain.new.machine in
     let s2 = state_of c.chain.new.machine in
     let ps = s.parameters in
     let first = tree_of c.deref-in-Chain.result.now in
@@ -911,10 +915,10 @@ eval-returns-in_ok-value-in-Chain t c =
     subst (λ x. Evaluates plain AllKnown r s s2 (λ names. eval ps x)) (sym seen)
     (evaluates_on plain AllKnown plain AllKnown c.in_ok-value-in-Chain.value r s s1 s2 (λ names. eval ps first) (λ qs names d. eval_links qs d ls) c.in_ok-value-in-Chain.ensures c.chain.ensures)
 
-pub eval-returns-in_err-a-in-Compare : goal.eval-returns-in_err-a-in-Compare
-eval-returns-in_err-a-in-Compare t c =
+pub eval_any-returns-in_err-a-in-Compare : goal.eval_any-returns-in_err-a-in-Compare
+eval_any-returns-in_err-a-in-Compare t c =
     let s = state_of c.args.machine.now in
-    let s1 = state_of c.operand_of-in-Compare.new.machine in
+    let s1 = state_of c.eval-in-Compare.new.machine in
     let ps = s.parameters in
     let rel = c.in-Compare.relation in
     let left = tree_of c.deref-in-Compare.result.now in
@@ -924,10 +928,10 @@ eval-returns-in_err-a-in-Compare t c =
     subst (λ x. Evaluates plain AllKnown r s s1 (λ names. eval ps x)) (sym seen)
     (evaluates_exit plain AllKnown plain AllKnown r _ s s1 (λ names. eval ps left) (λ names a. eval ps right >>= (λ b. ask (combines (relation rel) a b))) c.from_residual-in_err-a-in-Compare.ensures.1 c.in_err-a-in-Compare.ensures)
 
-pub eval-returns-in_ok-a-in-Compare : goal.eval-returns-in_ok-a-in-Compare
-eval-returns-in_ok-a-in-Compare t c =
+pub eval_any-returns-in_ok-a-in-Compare : goal.eval_any-returns-in_ok-a-in-Compare
+eval_any-returns-in_ok-a-in-Compare t c =
     let s = state_of c.args.machine.now in
-    let s1 = state_of c.operand_of-in-Compare.new.machine in
+    let s1 = state_of c.eval-in-Compare.new.machine in
     let s2 = state_of c.compared.new.machine in
     let ps = s.parameters in
     let rel = c.in-Compare.relation in
@@ -941,8 +945,8 @@ eval-returns-in_ok-a-in-Compare t c =
     (evaluates_on plain AllKnown plain AllKnown a r s s1 s2 (λ names. eval ps left) (λ qs names d. compared_with qs (relation rel) d right) c.in_ok-a-in-Compare.ensures
     (subst (λ op. Evaluates plain AllKnown r s1 s2 (λ names. compared_with s1.parameters op (plain names a) right)) c.relation_of.ensures c.compared.ensures))
 
-pub eval-returns-in-Var-deref : goal.eval-returns-in-Var-deref
-eval-returns-in-Var-deref t c =
+pub eval_any-returns-in-Var-deref : goal.eval_any-returns-in-Var-deref
+eval_any-returns-in-Var-deref t c =
     let s = state_of c.args.machine.now in
     let s1 = state_of c.named_item.new.machine in
     let r = c.named_item.result in
@@ -953,8 +957,8 @@ eval-returns-in-Var-deref t c =
     ∙ (ap (λ y. item (variable y) (trees_of c.in-Item.places.items)) (sym c.as_slice-in-Var-deref.ensures) ∙ ap (λ xs. item (variable c.as_slice-in-Var-deref.result.now) (trees_of xs)) (sym c.deref-in-Var-deref.ensures.value)))) in
     subst (λ y. Evaluates plain AllKnown r s s1 (λ names. eval s.parameters y)) (sym seen) c.named_item.ensures
 
-pub eval-returns-in_err-a-in-Span : goal.eval-returns-in_err-a-in-Span
-eval-returns-in_err-a-in-Span t c =
+pub eval_any-returns-in_err-a-in-Span : goal.eval_any-returns-in_err-a-in-Span
+eval_any-returns-in_err-a-in-Span t c =
     let s = state_of c.args.machine.now in
     let s1 = state_of c.eval.new.machine in
     let ps = s.parameters in
@@ -965,8 +969,8 @@ eval-returns-in_err-a-in-Span t c =
     subst (λ x. Evaluates plain AllKnown r s s1 (λ names. eval ps x)) (sym seen)
     (evaluates_exit plain AllKnown plain AllKnown r _ s s1 (λ names. eval ps low) (λ names a. eval ps high >>= (λ b. ask (spans a b))) c.from_residual-in_err-a-in-Span.ensures.1 c.in_err-a-in-Span.ensures)
 
-pub eval-returns-in_err-b-in-Span : goal.eval-returns-in_err-b-in-Span
-eval-returns-in_err-b-in-Span t c =
+pub eval_any-returns-in_err-b-in-Span : goal.eval_any-returns-in_err-b-in-Span
+eval_any-returns-in_err-b-in-Span t c =
     let s = state_of c.args.machine.now in
     let s1 = state_of c.eval.new.machine in
     let s2 = state_of c.eval-in-Span.new.machine in
@@ -981,8 +985,8 @@ eval-returns-in_err-b-in-Span t c =
     (evaluates_on plain AllKnown plain AllKnown a r s s1 s2 (λ names. eval ps low) (λ qs names d. eval qs high >>= (λ b. ask (spans d b))) c.in_ok-a-in-Span.ensures
     (evaluates_exit plain AllKnown plain AllKnown r _ s1 s2 (λ names. eval s1.parameters high) (λ names b. ask (spans (plain names a) b)) c.from_residual-in_err-b-in-Span.ensures.1 c.in_err-b-in-Span.ensures))
 
-pub eval-returns-in_ok-b-in-Span : goal.eval-returns-in_ok-b-in-Span
-eval-returns-in_ok-b-in-Span t c =
+pub eval_any-returns-in_ok-b-in-Span : goal.eval_any-returns-in_ok-b-in-Span
+eval_any-returns-in_ok-b-in-Span t c =
     let s = state_of c.args.machine.now in
     let s1 = state_of c.eval.new.machine in
     let s2 = state_of c.eval-in-Span.new.machine in
@@ -998,8 +1002,9 @@ eval-returns-in_ok-b-in-Span t c =
     (evaluates_on plain AllKnown plain AllKnown a r s s1 s2 (λ names. eval ps low) (λ qs names d. eval qs high >>= (λ e. ask (spans d e))) c.in_ok-a-in-Span.ensures
     (evaluates_then plain AllKnown plain AllKnown b r s1 s2 s2 (λ names. eval s1.parameters high) (λ names e. ask (spans (plain names a) e)) c.in_ok-b-in-Span.ensures (c.span.ensures s2)))
 
-pub operand_of-returns-in-Var : goal.operand_of-returns-in-Var
-operand_of-returns-in-Var t c =
+pub eval-returns-in-Some : goal.eval-returns-in-Some
+eval-returns-in-Some t c =
     let s = state_of c.args.machine.now in
-    let seen = ap tree_of c.in-Var.is ∙ (view-Var c.in-Var.name ∙ ap variable (sym c.as_slice.ensures)) in
-    subst (λ x. Evaluates plain AllKnown c.named.result s s (λ names. eval s.parameters x)) (sym seen) c.named.ensures
+    let z = c.in-Some.z in
+    let fit : FitsSigned w64 z = search rules in
+    subst (λ y. Evaluates plain AllKnown (Ok (value.Int y)) s s (λ names. eval s.parameters (tree_of c.args.e.now))) (sym (to_z-of_z w64 z fit)) c.in-Some.ensures

@@ -1,15 +1,19 @@
-use Rattle.std.proofs.Common.{◌≡◌, ◌+◌, ◌<◌, ◌≤◌, Ok, Err, [], true, false, Bool, drop, refl, ap, sym, ◌∙◌, subst, arith}
+use Rattle.std.proofs.Common.{◌≡◌, ◌+◌, ◌-◌, ◌<◌, pos, ◌+ℤ◌, ◌≤◌, Ok, Err, [], true, false, Bool, drop, refl, ap, sym, ◌∙◌, subst, arith}
 use Rattle.sg_value.specs.Known.{named}
 use Rattle.std.specs.Prelude.{if◌then◌else◌}
 use Rattle.std.proofs.lemmas.List.{drop_all}
-use Rattle.sg_value.specs.Plain.{AllKnownIn, plain, plain_of_all}
+use Rattle.sg_value.specs.Plain.{plain, plain_of_all}
 use Rattle.sg_store.specs.Interned.{Keeps}
 use Rattle.sg_tree.specs.TreeView.{tree_of, code_of, block_of, arms_of}
 use Rattle.sg_tree.specs.declared.stmt.Stmt.TheVariants as stmt
 use Rattle.sg_tree.proofs.StatementLevels.{view-Empty, view-Quit, view-Assign, view-If, view-For, view-Do}
 use Rattle.sg_tree.proofs.stmt.Stmt.TheLaws.{the_size}
 use Rattle.sg_eval.specs.Machine.{state_of}
-use Rattle.sg_eval.specs.Outcomes.{Evaluates, plain_in, known_in}
+use Rattle.sg_value.specs.Data.{int}
+use Rattle.sg_eval.specs.Outcomes.{Evaluates}
+use Rattle.sg_eval.specs.Queries.{integers_from}
+use Rattle.sg_eval.specs.Ranges.{entries_in, are_known}
+use Rattle.sg_eval.proofs.Ranged.{integers_left, integers_all, integers_over, counted_step}
 use Rattle.sg_eval.specs.Vars.{with_value}
 use Rattle.sg_eval.specs.Process.{gives, sets, ◌>>=◌}
 use Rattle.sg_eval.specs.Statements.{exec, exec_all, over}
@@ -20,7 +24,7 @@ use Rattle.sg_eval.proofs.Evaluating.{keeps_all, all_known_later, plain_of_all_l
 use Rattle.sg_eval.proofs.Executing.{at_top, executed_as, executed_then, executed_in, executed_value, executed_exit, executed_memory, executed_gives, executed_sets}
 use Rattle.sg_eval.proofs.FoldLoop.{known_at, known-drop, plain_of_all-drop}
 use Rattle.sg_eval.proofs.Later.{copy_known, copy_plain}
-use Rattle.sg_eval.proofs.Sizes.{block_size, arms_size, size-arms, size-other, size-body, statement-at, arm-at}
+use Rattle.sg_eval.proofs.Sizes.{block_size, arms_size, size-arms, size-other, statement-at, arm-at}
 use Rattle.sg_eval.proofs.exec.+exec.Goals as goal
 
 pub exec-exec_arms-requires : goal.exec-exec_arms-requires
@@ -34,21 +38,6 @@ exec-exec_all-requires g t c κs within =
     let small : block_size c.deref-in-If.result.now < the_size c.args.stmt.now =
     subst (λ s. block_size c.deref-in-If.result.now < the_size s) (sym c.in-If.is) (subst (λ ss. block_size ss < the_size (stmt.If c.in-If.arms c.in-If.other)) (sym c.deref-in-If.ensures.value) (size-other c.in-If.arms c.in-If.other)) in
     (omega (arith, small), (within, c.in_ok-exec_arms-in-If.ensures.done.parameters))
-
-pub exec-repeat-requires : goal.exec-repeat-requires
-exec-repeat-requires g t c κs within =
-    let s1 = state_of c.list_of.new.machine in
-    let small : block_size c.deref-in-For.result.now < the_size c.args.stmt.now =
-    subst (λ s. block_size c.deref-in-For.result.now < the_size s) (sym c.in-For.is) (subst (λ ss. block_size ss < the_size (stmt.For c.in-For.name c.in-For.e c.in-For.body)) (sym c.deref-in-For.ensures.value) (size-body c.in-For.name c.in-For.e c.in-For.body)) in (
-      omega (arith, small),
-      (
-        within,
-        (
-          c.in_ok-entries-in-For.ensures.parameters ∙ c.requires,
-          subst (AllKnownIn (named s1.names)) (sym c.deref-in-For-2.ensures.value) c.in_ok-entries-in-For.ensures.is_known,
-        ),
-      ),
-    )
 
 pub exec-returns-in-Empty-clause-done : goal.exec-returns-in-Empty-clause-done
 exec-returns-in-Empty-clause-done g t c =
@@ -129,11 +118,11 @@ exec-returns-in_err-entries-in-For-clause-done g t c =
     let r = c.from_residual-in_err-entries-in-For.result in
     subst (λ k. Executed r s s1 o o (exec k)) (sym (ap code_of c.in-For.is ∙ view-For x c.in-For.e c.in-For.body))
     (executed_as (listed_of [] list >>= over (λ e. sets x e (exec_all body))) _ r s s1 o o (each_step x list body)
-    (executed_exit plain_in known_in (listed_of [] list) (over (λ e. sets x e (exec_all body))) r _ s s1 o c.from_residual-in_err-entries-in-For.ensures.1
-    (at_top plain_in known_in _ s s1 (λ ps. listed_of ps list) c.requires c.in_err-entries-in-For.ensures)))
+    (executed_exit entries_in are_known (listed_of [] list) (over (λ e. sets x e (exec_all body))) r _ s s1 o c.from_residual-in_err-entries-in-For.ensures.1
+    (at_top entries_in are_known _ s s1 (λ ps. listed_of ps list) c.requires c.in_err-entries-in-For.ensures)))
 
-pub exec-returns-in_ok-entries-in-For-clause-done : goal.exec-returns-in_ok-entries-in-For-clause-done
-exec-returns-in_ok-entries-in-For-clause-done g t c =
+pub exec-returns-in-Listed-clause-done : goal.exec-returns-in-Listed-clause-done
+exec-returns-in-Listed-clause-done g t c =
     let s = state_of c.args.machine.now in
     let s1 = state_of c.list_of.new.machine in
     let s2 = state_of c.repeat.new.machine in
@@ -142,14 +131,35 @@ exec-returns-in_ok-entries-in-For-clause-done g t c =
     let x = c.in-For.name in
     let list = tree_of c.in-For.e in
     let body = block_of c.in-For.body.items in
-    let vs = c.in_ok-entries-in-For.entries in
+    let es = c.in_ok-entries-in-For.field-0 in
     let r = c.repeat.result in
-    let did = subst (λ ws. Executed r s1 s2 o o2 (over (λ e. sets x e (exec_all body)) (plain_of_all (named s1.names) ws))) c.deref-in-For-2.ensures.value
-    (subst (λ ss. Executed r s1 s2 o o2 (over (λ e. sets x e (exec_all (block_of ss))) (plain_of_all (named s1.names) c.deref-in-For-2.result.now))) c.deref-in-For.ensures.value c.repeat.ensures.done) in
+    let did = subst (λ ws. Executed r s1 s2 o o2 (over (λ e. sets x e (exec_all body)) (plain_of_all (named s1.names) ws))) c.deref-in-Listed-2.ensures.value
+    (subst (λ ss. Executed r s1 s2 o o2 (over (λ e. sets x e (exec_all (block_of ss))) (plain_of_all (named s1.names) c.deref-in-Listed-2.result.now))) c.deref-in-Listed.ensures.value c.repeat.ensures.done) in
     subst (λ k. Executed r s s2 o o2 (exec k)) (sym (ap code_of c.in-For.is ∙ view-For x c.in-For.e c.in-For.body))
     (executed_as (listed_of [] list >>= over (λ e. sets x e (exec_all body))) _ r s s2 o o2 (each_step x list body)
-    (executed_value plain_in known_in (listed_of [] list) (over (λ e. sets x e (exec_all body))) vs r s s1 s2 o o2
-    (at_top plain_in known_in (Ok vs) s s1 (λ ps. listed_of ps list) c.requires c.in_ok-entries-in-For.ensures) did))
+    (executed_value entries_in are_known (listed_of [] list) (over (λ e. sets x e (exec_all body))) es r s s1 s2 o o2
+    (at_top entries_in are_known (Ok es) s s1 (λ ps. listed_of ps list) c.requires c.in_ok-entries-in-For.ensures)
+    (subst (λ y. Executed r s1 s2 o o2 (over (λ e. sets x e (exec_all body)) (entries_in (named s1.names) y))) (sym c.in-Listed.is) did)))
+
+pub exec-returns-in-Counted-clause-done : goal.exec-returns-in-Counted-clause-done
+exec-returns-in-Counted-clause-done g t c =
+    let s = state_of c.args.machine.now in
+    let s1 = state_of c.list_of.new.machine in
+    let s2 = state_of c.count_up.new.machine in
+    let o = g.W.Sink.taken c.args.out.now in
+    let o2 = g.W.Sink.taken c.count_up.new.out in
+    let x = c.in-For.name in
+    let list = tree_of c.in-For.e in
+    let body = block_of c.in-For.body.items in
+    let es = c.in_ok-entries-in-For.field-0 in
+    let row = c.in-Counted.range in
+    let r = c.count_up.result in
+    let did = subst (λ ss. Executed r s1 s2 o o2 (over (λ e. sets x e (exec_all (block_of ss))) (integers_from row.first row.count))) c.deref-in-Counted.ensures.value c.count_up.ensures.done in
+    subst (λ k. Executed r s s2 o o2 (exec k)) (sym (ap code_of c.in-For.is ∙ view-For x c.in-For.e c.in-For.body))
+    (executed_as (listed_of [] list >>= over (λ e. sets x e (exec_all body))) _ r s s2 o o2 (each_step x list body)
+    (executed_value entries_in are_known (listed_of [] list) (over (λ e. sets x e (exec_all body))) es r s s1 s2 o o2
+    (at_top entries_in are_known (Ok es) s s1 (λ ps. listed_of ps list) c.requires c.in_ok-entries-in-For.ensures)
+    (subst (λ y. Executed r s1 s2 o o2 (over (λ e. sets x e (exec_all body)) (entries_in (named s1.names) y))) (sym c.in-Counted.is) did)))
 
 pub exec_all-loop-stmt-init : goal.exec_all-loop-stmt-init
 exec_all-loop-stmt-init g t c = record { outside = c.requires; reached = λ r s o h. h; later = omega arith; sure = refl }
@@ -383,3 +393,76 @@ repeat-returns-clause-done g t c =
     let o = g.W.Sink.taken c.loop-entry.out in
     let body = exec_all (block_of c.args.body.now) in
     c.loop-entry.invariant.reached (Ok tt) s o (subst (λ vs. Executed (Ok tt) s s o o (over (λ k. sets c.args.name.now k body) (plain_of_all (named s.names) vs))) (sym (drop_all c.loop-entry.entry-index c.args.entries.now c.loop-entry-test.false)) (executed_gives tt s o c.loop-entry.invariant.outside))
+
+pub count_up-loop-i-init : goal.count_up-loop-i-init
+count_up-loop-i-init g t c =
+    let body = exec_all (block_of c.args.body.now) in
+    record {
+      outside = c.requires.parameters;
+      reached = λ r s o h. subst (λ ds. Executed r (state_of c.args.machine.now) s (g.W.Sink.taken c.args.out.now) o (over (λ k. sets c.args.name.now k body) ds)) (integers_all c.args.range.first c.args.range.count) h;
+      later = omega arith;
+      sure = refl;
+    }
+
+pub count_up-exec_all-requires : goal.count_up-exec_all-requires
+count_up-exec_all-requires g t c κs within = (omega arith, (within, c.in_ok-set_integer.ensures.parameters ∙ c.loop-i.invariant.outside))
+
+pub count_up-returns-in_err-set_integer-clause-done : goal.count_up-returns-in_err-set_integer-clause-done
+count_up-returns-in_err-set_integer-clause-done g t c =
+    let s = state_of c.loop-i.machine in
+    let s1 = state_of c.set_integer.new.self in
+    let o = g.W.Sink.taken c.loop-i.out in
+    let r = c.from_residual.result in
+    let h = c.in_err-set_integer.ensures in
+    c.loop-i.invariant.reached r s1 o (executed_memory _ r s s1 o c.from_residual.ensures.1 (subst (Keeps s.names) (sym h.names) (keeps_all s.names)) h.err)
+
+pub count_up-returns-in_err-exec_all-clause-done : goal.count_up-returns-in_err-exec_all-clause-done
+count_up-returns-in_err-exec_all-clause-done g t c =
+    let x = c.args.name.now in
+    let i = c.loop-i.i in
+    let z = c.args.range.first +ℤ pos i in
+    let n = c.args.range.count in
+    let body = exec_all (block_of c.args.body.now) in
+    let s = state_of c.loop-i.machine in
+    let s1 = state_of c.set_integer.new.self in
+    let s2 = state_of c.exec_all.new.machine in
+    let o = g.W.Sink.taken c.loop-i.out in
+    let o2 = g.W.Sink.taken c.exec_all.new.out in
+    let r = c.from_residual-in_err-exec_all.result in
+    let e = c.in_err-exec_all.field-0.0 in
+    let rest = integers_from (c.args.range.first +ℤ pos (i + 1)) (n - (i + 1)) in
+    let change : s1.variables ≡ with_value x (int z) s.variables = c.in_ok-set_integer.ensures.ok ∙ ap (λ y. with_value x (int y) s.variables) (counted_step c.args.range c.requires.range i c.loop-i-test.true) in
+    c.loop-i.invariant.reached r s2 o2 (subst (λ ds. Executed r s s2 o o2 (over (λ k. sets x k body) ds)) (sym (integers_left c.args.range.first n i c.loop-i-test.true))
+    (executed_in (sets x (int z) body) (λ u. over (λ k. sets x k body) rest) r e s s2 o o2 c.from_residual-in_err-exec_all.ensures.1
+    (executed_sets x (int z) body (Err e) s s1 s2 o o2 c.in_ok-set_integer.ensures.names change c.in_err-exec_all.ensures.done)))
+
+pub count_up-loop-i-preserved : goal.count_up-loop-i-preserved
+count_up-loop-i-preserved g t c =
+    let x = c.args.name.now in
+    let i = c.loop-i.i in
+    let z = c.args.range.first +ℤ pos i in
+    let n = c.args.range.count in
+    let body = exec_all (block_of c.args.body.now) in
+    let s = state_of c.loop-i.machine in
+    let s1 = state_of c.set_integer.new.self in
+    let s2 = state_of c.exec_all.new.machine in
+    let o = g.W.Sink.taken c.loop-i.out in
+    let o2 = g.W.Sink.taken c.exec_all.new.out in
+    let rest = integers_from (c.args.range.first +ℤ pos (i + 1)) (n - (i + 1)) in
+    let inv = c.loop-i.invariant in
+    let change : s1.variables ≡ with_value x (int z) s.variables = c.in_ok-set_integer.ensures.ok ∙ ap (λ y. with_value x (int y) s.variables) (counted_step c.args.range c.requires.range i c.loop-i-test.true) in
+    let did = c.in_ok-exec_all.ensures.done in
+    record {
+      outside = did.parameters;
+      reached = λ r s3 o3 h. inv.reached r s3 o3 (subst (λ ds. Executed r s s3 o o3 (over (λ k. sets x k body) ds)) (sym (integers_left c.args.range.first n i c.loop-i-test.true))
+          (executed_then (sets x (int z) body) (λ u. over (λ k. sets x k body) rest) tt r s s2 s3 o o2 o3 (executed_sets x (int z) body (Ok tt) s s1 s2 o o2 c.in_ok-set_integer.ensures.names change did) h));
+      later = omega (arith, inv.later, c.in_ok-exec_all.ensures.cause.later);
+      sure = c.in_ok-exec_all.ensures.sure ∙ inv.sure;
+    }
+
+pub count_up-returns-clause-done : goal.count_up-returns-clause-done
+count_up-returns-clause-done g t c =
+    let s = state_of c.loop-i.machine in
+    let o = g.W.Sink.taken c.loop-i.out in
+    let body = exec_all (block_of c.args.body.now) in
+    c.loop-i.invariant.reached (Ok tt) s o (subst (λ ds. Executed (Ok tt) s s o o (over (λ k. sets c.args.name.now k body) ds)) (sym (integers_over c.args.range.first c.args.range.count c.loop-i.i c.loop-i-test.false)) (executed_gives tt s o c.loop-i.invariant.outside))

@@ -1,11 +1,12 @@
 use Rattle.sg_tree.proofs.stmt.Stmt.TheLaws.{the_size}
 use Rattle.sg_value.specs.Known.{named}
 use Rattle.sg_eval.proofs.Sizes.{block_size, arms_size}
-use Rattle.std.proofs.Common.{◌≡◌, ◌≤◌, ◌+◌, ◌*◌, ℕ, List, [], Bool, Option, Result, drop}
+use Rattle.std.proofs.Common.{◌≡◌, ◌≤◌, ◌+◌, ◌-◌, ◌*◌, ℕ, pos, ◌+ℤ◌, List, [], Bool, Option, Result, drop}
 use Rattle.sg_value.specs.Plain.{AllKnownIn, plain_of_all}
 use Rattle.sg_tree.specs.TreeView.{block_of, arms_of}
 use Rattle.sg_eval.specs.Machine.{state_of}
 use Rattle.sg_eval.specs.Process.{sets}
+use Rattle.sg_eval.specs.Queries.{integers_from}
 use Rattle.sg_eval.specs.State.{State}
 use Rattle.sg_eval.specs.Statements.{exec_all, over}
 use Rattle.sg_eval.specs.Steps.{Executed, arm_done}
@@ -50,6 +51,19 @@ invariant-repeat-loop-entry g l =
       sure : sink.sure l.out ≡ sink.sure l.fn.out;
     }
 
+-- whatever comes of the integers that are left comes of all
+abbrev pub invariant-count_up-loop-i : goal.invariant-count_up-loop-i
+invariant-count_up-loop-i g l =
+    let sink = g.W.Sink in
+    record {
+      outside : (state_of l.machine).parameters ≡ [];
+      reached : (r : Result (Unit {0}) StepFault) (s : State) (o : Option (List ℕ))
+          → Executed r (state_of l.machine) s (sink.taken l.out) o (over (λ e. sets l.name e (exec_all (block_of l.body))) (integers_from (l.range.first +ℤ pos l.i) (l.range.count - l.i)))
+          → Executed r (state_of l.fn.machine) s (sink.taken l.fn.out) o (over (λ e. sets l.name e (exec_all (block_of l.body))) (integers_from l.range.first l.range.count));
+      later : sink.faults l.fn.out ≤ sink.faults l.out;
+      sure : sink.sure l.out ≡ sink.sure l.fn.out;
+    }
+
 -- the size of the tree that is left, and which call comes first over one of this size
 abbrev pub decreases-exec : goal.decreases-exec
 decreases-exec g l = 3 * the_size l.stmt.now
@@ -62,3 +76,6 @@ decreases-exec_arms g l = 3 * arms_size l.arms.now + 2
 
 abbrev pub decreases-repeat : goal.decreases-repeat
 decreases-repeat g l = 3 * block_size l.body.now + 2
+
+abbrev pub decreases-count_up : goal.decreases-count_up
+decreases-count_up g l = 3 * block_size l.body.now + 2

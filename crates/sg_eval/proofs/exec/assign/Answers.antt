@@ -1,4 +1,12 @@
-use Rattle.std.proofs.Common.{Ok, [], sym, ◌∙◌, subst}
+use Rattle.std.proofs.Common.{Ok, [], ap, sym, ◌∙◌, subst, rules}
+use Rattle.std.specs.Prelude.{FitsSigned}
+use Rattle.std.specs.Int.{w64}
+use Rattle.std.proofs.lemmas.Int.{to_z-of_z}
+use Rattle.sg_value.specs.Data.{int}
+use Rattle.sg_value.specs.declared.value.Value.TheVariants as value
+use Rattle.sg_rows.proofs.Replying.{contents-Int, plain_integer}
+use Rattle.sg_eval.specs.Vars.{with_value}
+use Rattle.sg_eval.proofs.Evaluating.{keeps_all}
 use Rattle.sg_value.specs.Known.{named}
 use Rattle.sg_value.specs.Plain.{AllKnown, plain}
 use Rattle.sg_store.specs.Interned.{Keeps}
@@ -14,7 +22,7 @@ returns-in_err-value-clause-done c = λ taken.
     let s = state_of c.args.machine.now in
     let s1 = state_of c.eval.new.machine in
     let t = tree_of c.args.e.now in
-    executed_exit plain AllKnown (eval [] t) (λ d. sets c.args.name.now d (gives tt)) c.from_residual.result _ s s1 taken c.from_residual.ensures.1 (at_top plain AllKnown _ s s1 (λ ps. eval ps t) c.requires c.in_err-value.ensures)
+    executed_exit plain AllKnown (eval [] t) (λ d. sets c.args.name.now d (gives tt)) c.from_residual-in_err-value.result _ s s1 taken c.from_residual-in_err-value.ensures.1 (at_top plain AllKnown _ s s1 (λ ps. eval ps t) c.requires c.in_err-value.ensures)
 
 pub returns-in_err-set-clause-done : goal.returns-in_err-set-clause-done
 returns-in_err-set-clause-done c = λ taken.
@@ -36,3 +44,24 @@ returns-clause-done c = λ taken.
     let g = c.in_ok-set.ensures in
     executed_value plain AllKnown (eval [] t) (λ d. sets x d (gives tt)) v (Ok tt) s s1 s2 taken taken (at_top plain AllKnown (Ok v) s s1 (λ ps. eval ps t) c.requires h)
     (executed_sets x (plain (named s1.names) v) (gives tt) (Ok tt) s1 s2 s2 taken taken g.names g.ok (executed_gives tt s2 taken (g.parameters ∙ (h.parameters ∙ c.requires))))
+
+pub returns-in_err-set_integer-clause-done : goal.returns-in_err-set_integer-clause-done
+returns-in_err-set_integer-clause-done c = λ taken.
+    let s = state_of c.args.machine.now in
+    let s2 = state_of c.set_integer.new.self in
+    let g = c.in_err-set_integer.ensures in
+    executed_memory (eval [] (tree_of c.args.e.now) >>= (λ d. sets c.args.name.now d (gives tt))) c.from_residual.result s s2 taken c.from_residual.ensures.1 (subst (Keeps s.names) (sym g.names) (keeps_all s.names)) g.err
+
+pub returns-in-Some-clause-done : goal.returns-in-Some-clause-done
+returns-in-Some-clause-done c = λ taken.
+    let s = state_of c.args.machine.now in
+    let s2 = state_of c.set_integer.new.self in
+    let t = tree_of c.args.e.now in
+    let x = c.args.name.now in
+    let z = c.in-Some.z in
+    let v = value.Int z in
+    let g = c.in_ok-set_integer.ensures in
+    let fit : FitsSigned w64 z = search rules in
+    let change = g.ok ∙ (ap (λ y. with_value x (int y) s.variables) (to_z-of_z w64 z fit) ∙ ap (λ d. with_value x d s.variables) (sym (plain_integer s.names v z (contents-Int z)))) in
+    executed_value plain AllKnown (eval [] t) (λ d. sets x d (gives tt)) v (Ok tt) s s s2 taken taken (at_top plain AllKnown (Ok v) s s (λ ps. eval ps t) c.requires c.in-Some.ensures)
+    (executed_sets x (plain (named s.names) v) (gives tt) (Ok tt) s s2 s2 taken taken g.names change (executed_gives tt s2 taken (g.parameters ∙ c.requires)))

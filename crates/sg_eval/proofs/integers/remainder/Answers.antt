@@ -1,0 +1,21 @@
+use Rattle.std.proofs.Common.{◌≡◌, pos, sym, subst, rules}
+use Rattle.std.specs.Prelude.{FitsSigned}
+use Rattle.std.specs.Int.{w64, int_rem_euclid}
+use Rattle.sg_calls.specs.Words.{IsRemainder}
+use Rattle.sg_calls.proofs.Remainders.{remainder_is}
+use Rattle.sg_rows.proofs.Signed.{of_bits}
+use Rattle.std.proofs.lemmas.Int.{to_z-of_z}
+use Rattle.sg_tree.specs.declared.expr.Op.TheVariants.{Mod}
+use Rattle.sg_eval.specs.AtOnce.{Calculates}
+use Rattle.sg_eval.proofs.Computed.{remainder_there}
+use Rattle.sg_eval.proofs.integers.remainder.Goals as goal
+
+pub returns : goal.returns
+returns c =
+    let x = c.args.x in
+    let y = c.args.y in
+    let r = c.wrapping_rem_euclid.result in
+    let fit : FitsSigned w64 r = search rules in
+    let is : r ≡ int_rem_euclid x y = of_bits (λ a b. r ≡ int_rem_euclid a b) x y c.ranges.x c.ranges.y c.wrapping_rem_euclid.ensures in
+    let nonzero : y ≡ pos 0 → ⊥ = search rules in
+    subst (Calculates Mod x y) (sym (to_z-of_z w64 r fit)) (remainder_there x y r nonzero fit (subst (IsRemainder x y) (sym is) (remainder_is x y nonzero)))
