@@ -15,14 +15,14 @@ vars_of names vs = map (λ v. (v.name, plain (named names) v.value)) vs
 abbrev pub values_of : Known → List (Vec ℕ Global × Value) → Vars
 values_of names es = map (λ e. (e.0.items, plain (named names) e.1)) es
 
--- each semigroup in the values is known
+-- each semigroup and each ideal in the values is known
 abbrev pub AreKnown : Known → List Variable → Type 0
 AreKnown names vs = All (λ v. AllKnown (named names) v.value) vs
 
 abbrev pub AreKnownIn : Known → List (Vec ℕ Global × Value) → Type 0
 AreKnownIn names es = All (λ e. AllKnown (named names) e.1) es
 
--- the minimal lists of the semigroups, the variables, and the parameters of the arrows around, the nearest first
+-- what the store knows, the variables, and the parameters of the arrows around, the nearest first
 pub record State : Type 0 where
   pub names : Known
   pub variables : Vars

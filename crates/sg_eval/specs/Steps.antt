@@ -34,7 +34,7 @@ Does (Err (Script e)) p vars vars' bs = Runs p vars (Err e) vars' bs
 Does (Err Write) p vars vars' bs = Breaks p vars vars' bs
 Does (Err Memory) p vars vars' bs = Breaks p vars vars' bs
 
--- a call over a machine and a sink did what the process does; known semigroups stayed, and no parameter
+-- a call over a machine and a sink did what the process does; known semigroups and ideals stayed, and no parameter
 pub record Executed {A : Type 0} (r : Result A StepFault) (old new : State) (taken taken' : Option (List ℕ)) (p : Process A) : Type 0 where
   pub keeps : Keeps old.names new.names
   pub parameters : OnOk r (new.parameters ≡ [])

@@ -16,7 +16,7 @@ use sg_store::Store;
 use sg_value::{Value, print_into, try_clone};
 use std::alloc::{AllocError, Global};
 
-/// The semigroups that are known, the variables with their values, and the parameters of the arrows around.
+/// The semigroups and ideals that are known, the variables with their values, and the parameters of the arrows around.
 #[derive(Drop)]
 pub struct Machine {
     store: Store,
@@ -43,7 +43,7 @@ impl Machine {
     ghost use Rattle.sg_eval.specs.AtOnce.{GivesInteger};
     ghost use Rattle.sg_value.specs.Data.{int};
 
-    /// A machine over these semigroups, in which no variable has a value.
+    /// A machine over what this store knows, in which no variable has a value.
     pub fn new(alloc: Global, store: Store) -> Machine
         ensures names { (state_of result).names ≡ store }
         ensures variables { (state_of result).variables ≡ [] }

@@ -31,9 +31,9 @@ impl Machine {
     ghost use Rattle.sg_eval.specs.Steps.{Executes};
 
     /// Does what a statement says. A statement inside a block never ends the run, and a fault of the script undoes
-    /// nothing that was done before. `Write` comes only where the sink's count of faults rose in this call. After
-    /// `Write` or `Memory` the statement was left at some point. What an earlier step left behind counts for nothing
-    /// but the values of the variables.
+    /// nothing that was done before. `Write` comes only where the sink's count of faults rose in this call, or
+    /// stands at its last value. After `Write` or `Memory` the statement was left at some point. What an earlier step
+    /// left behind counts for nothing but the values of the variables.
     pub fn step<W: Sink>(
         &mut self,
         alloc: Global,
