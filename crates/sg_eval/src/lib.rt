@@ -1,10 +1,9 @@
 //! What statements do, and the machine that does them.
 //!
 //! `specs/` has the meaning of every expression and statement as a process, which runs over variables with plain
-//! values whatever the store keeps. `laws` says that each has at most one outcome, and over lawful variables one. The machine keeps
-//! a store, the variables and the parameters of arrows; contracts see it as its state: the lists of the store, the
-//! variables and the parameters, all plain. Integers that are there at once (`integers`) take no call of the evaluator
-//! of all forms.
+//! values whatever the store keeps. `laws` says that each has at most one outcome, and over lawful variables one. The
+//! machine keeps a store, the variables and the parameters of arrows; contracts see it as its state: the lists of the
+//! store, the variables and the parameters, all plain.
 //!
 //! The layer above uses `Machine::step`: a statement ends as its process ends, with the same variables and the same
 //! text in the sink, or, where the sink failed or memory ran out, it was left at some point of its process.

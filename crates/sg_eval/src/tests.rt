@@ -9,7 +9,7 @@ use sg_store::Store;
 use std::alloc::Global;
 use std::test::Fail;
 
-/// How the machine's step ends that does what this statement says.
+/// How the machine's step ends that does what this text says.
 fn step(
     alloc: Global,
     machine: &mut Machine,
@@ -20,57 +20,76 @@ fn step(
     Ok(machine.step(alloc, &stmt, out))
 }
 
+/// How the first of two steps of one machine ends.
+fn first_of(
+    alloc: Global,
+    texts: (&[u8], &[u8]),
+    out: &mut MemSink,
+) -> Result<Result<Flow, StepFault>, Fail> {
+    let mut machine = Machine::new(alloc, Store::new(alloc));
+    let ended = step(alloc, &mut machine, texts.0, out)?;
+    step(alloc, &mut machine, texts.1, out)?.ok();
+    Ok(ended)
+}
+
+/// Whether the first of two steps ends so, and both write this, where the writes of these numbers fail.
+fn is_done(
+    alloc: Global,
+    texts: (&[u8], &[u8]),
+    failing: &[u64],
+    ended: Result<Flow, StepFault>,
+    written: &[u8],
+) -> Result<bool, Fail> {
+    let mut out = MemSink::new(alloc, failing)?;
+    let found = first_of(alloc, texts, &mut out)?;
+    Ok(found == ended && out.bytes() == written)
+}
+
 #[test]
 fn a_statement_is_done(rt: HostRuntime) -> Result<(), Fail> {
-    let alloc = rt.alloc();
-    let mut machine = Machine::new(alloc, Store::new(alloc));
-    let mut out = MemSink::new(alloc, &[])?;
-    let ended = step(alloc, &mut machine, b"Print(1);", &mut out)?;
-    assert!(rt; ended == Ok(Flow::On));
-    assert!(rt; out.bytes() == b"1".as_slice());
-    Ok(())
-}
-
-#[test]
-fn what_a_refused_statement_did_before_stands(rt: HostRuntime) -> Result<(), Fail> {
-    let alloc = rt.alloc();
-    let mut machine = Machine::new(alloc, Store::new(alloc));
-    let mut out = MemSink::new(alloc, &[])?;
-    let ended = step(
-        alloc,
-        &mut machine,
-        b"for i in [6] do Print(i); x := i; y; od;",
-        &mut out,
-    )?;
-    assert!(rt; ended == Err(StepFault::Script(Fault::UnknownName)));
-    step(alloc, &mut machine, b"Print(i, x);", &mut out)?.ok();
-    assert!(rt; out.bytes() == b"666".as_slice());
-    Ok(())
-}
-
-#[test]
-fn what_was_written_before_a_failed_write_stands(rt: HostRuntime) -> Result<(), Fail> {
-    let alloc = rt.alloc();
-    let mut machine = Machine::new(alloc, Store::new(alloc));
-    let mut out = MemSink::new(alloc, &[1])?;
-    let ended = step(
-        alloc,
-        &mut machine,
-        b"for i in [1..3] do Print(i); od;",
-        &mut out,
-    )?;
-    assert!(rt; ended == Err(StepFault::Write));
-    step(alloc, &mut machine, b"Print(i);", &mut out)?.ok();
-    assert!(rt; out.bytes() == b"12".as_slice());
+    assert!(rt;
+        is_done(
+            rt.alloc(),
+            (b"Print(1);", b"quit;"),
+            &[],
+            Ok(Flow::On),
+            b"1"
+        )?
+    );
     Ok(())
 }
 
 #[test]
 fn quit_ends_the_run(rt: HostRuntime) -> Result<(), Fail> {
-    let alloc = rt.alloc();
-    let mut machine = Machine::new(alloc, Store::new(alloc));
-    let mut out = MemSink::new(alloc, &[])?;
-    let ended = step(alloc, &mut machine, b"quit;", &mut out)?;
-    assert!(rt; ended == Ok(Flow::Quit));
+    assert!(rt;
+        is_done(
+            rt.alloc(),
+            (b"quit;", b"Print(1);"),
+            &[],
+            Ok(Flow::Quit),
+            b"1"
+        )?
+    );
+    Ok(())
+}
+
+#[test]
+fn what_a_refused_statement_did_stands(rt: HostRuntime) -> Result<(), Fail> {
+    let texts = (
+        b"for i in [6] do Print(i); x := i; y; od;".as_slice(),
+        b"Print(i, x);".as_slice(),
+    );
+    let ended = Err(StepFault::Script(Fault::UnknownName));
+    assert!(rt; is_done(rt.alloc(), texts, &[], ended, b"666")?);
+    Ok(())
+}
+
+#[test]
+fn what_was_written_before_a_failed_write_stands(rt: HostRuntime) -> Result<(), Fail> {
+    let texts = (
+        b"for i in [1..3] do Print(i); od;".as_slice(),
+        b"Print(i);".as_slice(),
+    );
+    assert!(rt; is_done(rt.alloc(), texts, &[1], Err(StepFault::Write), b"12")?);
     Ok(())
 }

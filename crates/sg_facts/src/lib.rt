@@ -1,4 +1,4 @@
-//! The rows of the commands that tell facts of a numerical semigroup: its members, numbers and lists.
+//! The rows of the commands that tell facts of a numerical semigroup: its numbers and lists.
 //!
 //! Each answers its definition over all integers (`specs`), or the first refusal in the one order of all rows.
 #![tactic(auto)]
@@ -7,8 +7,6 @@ mod gap_lists;
 mod lists;
 mod modulo;
 mod numbers;
-#[cfg(test)]
-mod tests;
 
 pub use gap_lists::{fundamental_gaps_of, gaps_of, small_elements_of};
 pub use lists::{apery_list_of, minimal_generators_of, pseudo_frobenius_of, special_gaps_of};

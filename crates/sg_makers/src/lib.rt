@@ -13,8 +13,6 @@ mod generators;
 mod listed;
 mod modular;
 mod settling;
-#[cfg(test)]
-mod tests;
 
 pub use derived::{intersection_of, quotient_of};
 pub use generators::numerical_semigroup_of;

@@ -112,8 +112,8 @@ pub fn by_apery_list_of(alloc: Global, store: &mut Store, l: &Value) -> Result<V
     by_apery_list(alloc, store, zs.as_slice())
 }
 
-/// The numerical semigroup of the naturals that divide no entry of a list, in any order and with repeats. Its
-/// fundamental gaps are among the entries (Rosales and Garcia-Sanchez, Numerical Semigroups, 2009).
+/// The numerical semigroup of the naturals that divide no entry of a list, in any order and with repeats, as that
+/// of given fundamental gaps (Rosales and Garcia-Sanchez, Numerical Semigroups, 2009).
 ///
 /// WrongType where the argument is no list of integers; TooLarge where an entry passes `FUNDAMENTAL_GAP_LIMIT`;
 /// BadArgument where an entry is below 1, or those naturals are no numerical semigroup; then TooLarge where it is not

@@ -17,8 +17,6 @@ mod own;
 mod pairs;
 mod settling;
 mod taking;
-#[cfg(test)]
-mod tests;
 
 pub use facts::{ambient_of, ideal_generators_of};
 pub use generated::ideal_of_list;
