@@ -1,0 +1,4 @@
+pub mod WalkLemmas
+pub mod SumLemmas
+pub mod PlaceLemmas
+pub mod OrderLemmas

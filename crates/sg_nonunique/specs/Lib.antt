@@ -1,0 +1,13 @@
+pub mod Walks
+pub mod Places
+pub mod Counts
+pub mod Factorizations
+pub mod Deltas
+pub mod Elasticity
+pub mod Classes
+pub mod Presentations
+pub mod Catenary
+pub mod Omega
+pub mod Affine
+pub mod Equations
+pub mod Costs
