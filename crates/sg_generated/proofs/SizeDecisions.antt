@@ -2,8 +2,9 @@
 use Rattle.std.proofs.Common.{ℕ, ◌<◌, List, length, get_or, subst, inl, inr}
 use Rattle.std.specs.Prelude.{◌⊎◌, ℤ, pos, neg_ℤ, ◌<ℤ◌}
 use Rattle.std.proofs.lemmas.List.Elements.{Contains-get_or}
-use Rattle.sg_ideal.specs.Value.{GeneratesIdeal, AreSmall, HasLarge, HasLargeGenerator, IsSmall}
-use Rattle.sg_ideal.specs.declared.limits.TheConstants.{GENERATOR_LIMIT}
+use Rattle.sg_ideal.specs.Value.{GeneratesIdeal, HasLargeGenerator}
+use Rattle.sg_lawful.specs.Generators.{AreSmall, HasLarge, IsSmall}
+use Rattle.sg_lawful.specs.declared.limits.TheConstants.{IDEAL_GENERATOR_LIMIT}
 use Rattle.sg_ideal.proofs.FaultLemmas.{small-large}
 use Rattle.sg_exist.specs.Decided.{Decided}
 use Rattle.sg_exist.proofs.Decisions.{decided-and, decided-same, decided-lt_z, each-below}
@@ -17,7 +18,7 @@ small-decided zs = decided-same ((k : ℕ) → k < length zs → IsSmall (get_or
     (each-below (λ k. IsSmall (get_or zs k (pos 0))) (λ k. one-small (get_or zs k (pos 0))) (length zs))
   where
     one-small : (x : ℤ) → Decided (IsSmall x)
-    one-small x = decided-and (neg_ℤ GENERATOR_LIMIT <ℤ x) (x <ℤ GENERATOR_LIMIT) (decided-lt_z (neg_ℤ GENERATOR_LIMIT) x) (decided-lt_z x GENERATOR_LIMIT)
+    one-small x = decided-and (neg_ℤ IDEAL_GENERATOR_LIMIT <ℤ x) (x <ℤ IDEAL_GENERATOR_LIMIT) (decided-lt_z (neg_ℤ IDEAL_GENERATOR_LIMIT) x) (decided-lt_z x IDEAL_GENERATOR_LIMIT)
 
 -- where an entry is past the limit, not all are within it
 pub large-small : (zs : List ℤ) → HasLarge zs → ¬ AreSmall zs

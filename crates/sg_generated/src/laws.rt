@@ -3,7 +3,8 @@
 ghost use Rattle.std.specs.Prelude.{◌≡◌, ◌<◌, ℕ, ℤ, Bool, IsTrue, List, length};
 ghost use Rattle.sg_defs.specs.Ideals.{IsIdealMember, IsInSum, IsInDifference, IsInMultiple, IsInTranslate, IsInCanonical, IsInMaximal};
 ghost use Rattle.sg_defs.specs.Membership.{IsNumericalSemigroup};
-ghost use Rattle.sg_ideal.specs.Value.{AreSmall, GeneratesIdeal, HasLargeGenerator, IsInBoth};
+ghost use Rattle.sg_ideal.specs.Value.{GeneratesIdeal, HasLargeGenerator, IsInBoth};
+ghost use Rattle.sg_lawful.specs.Generators.{AreSmall};
 ghost use Rattle.sg_exist.specs.Decided.{Decided};
 ghost use Rattle.sg_generated.specs.Sets.{IsIdealSet, HasIdeal};
 

@@ -5,7 +5,7 @@ use Rattle.std.proofs.Common.{to_z, of_z, w64}
 use Rattle.std.specs.Int.Signed.{le_z}
 use mir.Val.{SFits}
 use Rattle.std.proofs.lemmas.List.Elements.{Contains-get_or}
-use Rattle.sg_ideal.specs.Value.{IsSmall}
+use Rattle.sg_lawful.specs.Generators.{IsSmall}
 use Rattle.std.proofs.lemmas.Int.{ints}
 use Rattle.sg_defs.specs.Ideals.{IsIdealMember}
 use Rattle.sg_apery.specs.Classes.{IsAboveEntry}

@@ -10,7 +10,8 @@ use Rattle.sg_defs.specs.Listings.{Lists}
 use Rattle.sg_invar.proofs.ListingLemmas.{increasing-push}
 use Rattle.sg_ideal.specs.Classes.{IsFrom, IsIdealTable}
 use Rattle.sg_ideal.specs.Heads.{IsHead, raised_by}
-use Rattle.sg_ideal.specs.Value.{HasLargeGenerator, IsLarge}
+use Rattle.sg_ideal.specs.Value.{HasLargeGenerator}
+use Rattle.sg_lawful.specs.Generators.{IsLarge}
 use Rattle.sg_ideal.proofs.HeadLemmas.{head-entry}
 use Rattle.sg_ideal.proofs.GenerateLemmas.{head-decided, head-zero, multiplicity-listed}
 use Rattle.sg_ideal.proofs.KeptLemmas.{heads-generate, raised-to}

@@ -4,7 +4,8 @@ use Rattle.std.specs.Prelude.{ℕ, ℤ, ◌↔◌, List, Contains}
 use Rattle.std.proofs.lemmas.Int.{ints}
 use Rattle.sg_ideal.specs.declared.fault.IdealFault.{IdealFault}
 use Rattle.sg_ideal.specs.declared.fault.IdealFault.TheVariants.{BadArgument, TooLarge, Memory}
-use Rattle.sg_ideal.specs.Value.{AreSmall, GeneratesIdeal, HasLarge, HasLargeGenerator, IdealValue, IsIdealOf}
+use Rattle.sg_ideal.specs.Value.{GeneratesIdeal, HasLargeGenerator, IdealValue, IsIdealOf}
+use Rattle.sg_lawful.specs.Generators.{AreSmall, HasLarge}
 use Rattle.sg_ideal.specs.Faults.{AreRefused, IsListFault, IsMemory, IsSizeFault}
 
 pub size-fault : (G : List ℕ) (P : ℤ → Type 0) (I : List ℤ) → GeneratesIdeal G P I → (f : IdealFault) → IsListFault I f → IsSizeFault G P f

@@ -1,11 +1,13 @@
 -- Sums of k members, by one more member at a time.
-use Rattle.std.proofs.Common.{◌≡◌, ℕ, zero, suc, ◌+◌, ◌*◌, ◌≤◌, ◌↔◌, List, get_or, refl, sym, ap, subst, inl, inr, arith}
+use Rattle.std.proofs.Common.{◌≡◌, ℕ, zero, suc, ◌+◌, ◌*◌, ◌↔◌, List, get_or, refl, sym, ap, subst, inl, inr, arith}
 use Rattle.std.specs.Prelude.{ℤ, pos, negsuc, neg_ℤ, nat_abs, ◌+ℤ◌, ◌-ℤ◌, ◌<ℤ◌, ◌≤ℤ◌}
 use Rattle.std.proofs.lemmas.Int.{ints, by_lt_z}
 use Rattle.sg_defs.specs.Membership.{AtNatural, IsMember}
 use Rattle.sg_defs.specs.Ideals.{IsInMultiple}
 use Rattle.sg_apery.specs.Classes.{IsAboveEntry}
-use Rattle.sg_ideal.specs.Value.{IdealValue, IsIn, IsLarge, IsLeast, times}
+use Rattle.sg_ideal.specs.Value.{IdealValue, IsIn, IsLeast, times}
+use Rattle.sg_lawful.specs.declared.limits.TheConstants.{IDEAL_GENERATOR_LIMIT}
+use Rattle.sg_lawful.specs.Generators.{IsLarge}
 use Rattle.sg_ideal.specs.Classes.{IsFrom, IsIdealTable, IsKept, IsSpread}
 use Rattle.sg_ideal.proofs.FromLemmas.{at-natural, natural-at}
 use Rattle.sg_ideal.proofs.GenerateLemmas.{above-member}
@@ -92,6 +94,6 @@ pub times-below : (k : ℕ) (x : ℤ) → x <ℤ pos 0 → times k x ≡ neg_ℤ
 times-below k (pos n) l = absurd (omega (arith, ints, l))
 times-below k (negsuc n) l = times-neg k (suc n)
 
-pub times-large : (k : ℕ) (x : ℤ) → 4294967296 ≤ k * nat_abs x → IsLarge (times k x)
+pub times-large : (k : ℕ) (x : ℤ) → IDEAL_GENERATOR_LIMIT ≤ℤ pos (k * nat_abs x) → IsLarge (times k x)
 times-large k x l =
     by_lt_z x (pos 0) (λ below. let e = times-below k x below in inl (omega (arith, ints, e, l))) (λ above. let e = times-above k x above in inr (omega (arith, ints, e, l)))

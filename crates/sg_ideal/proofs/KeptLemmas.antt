@@ -10,7 +10,8 @@ use Rattle.sg_defs.specs.Listings.{Lists}
 use Rattle.sg_defs.specs.Membership.{IsMember, IsIntegerMember}
 use Rattle.sg_defs.specs.Ideals.{IsIdealMember}
 use Rattle.sg_apery.specs.Classes.{IsAboveEntry}
-use Rattle.sg_ideal.specs.Value.{GeneratesIdeal, AreSmall}
+use Rattle.sg_ideal.specs.Value.{GeneratesIdeal}
+use Rattle.sg_lawful.specs.Generators.{AreSmall}
 use Rattle.sg_ideal.specs.Classes.{IsFrom, IsIdealTable, IsKept}
 use Rattle.sg_ideal.specs.Heads.{IsHead, raised_by}
 use Rattle.sg_ideal.proofs.FromLemmas.{at-natural, natural-at}

@@ -7,7 +7,8 @@ use Rattle.std.proofs.lemmas.List.{get_or_default}
 use Rattle.std.proofs.lemmas.List.FromFn.{get_or-map-range_with_len, length-map-range_with_len}
 use Rattle.sg_defs.specs.Ideals.{IsInMultiple}
 use Rattle.sg_apery.specs.Classes.{IsAboveEntry}
-use Rattle.sg_ideal.specs.Value.{HasLargeGenerator, IdealValue, IsIn, IsLarge, IsLeast, times}
+use Rattle.sg_ideal.specs.Value.{HasLargeGenerator, IdealValue, IsIn, IsLeast, times}
+use Rattle.sg_lawful.specs.Generators.{IsLarge}
 use Rattle.sg_ideal.specs.Classes.{AreClasses, IsFrom, IsKept, IsSpread}
 use Rattle.sg_ideal.proofs.ExistLemmas.{large-base}
 use Rattle.sg_ideal.proofs.ExtendLemmas.{extended-classes, extended-same}

@@ -14,7 +14,8 @@ use Rattle.sg_defs.proofs.MembershipLemmas.{member-zero, member-add, member-entr
 use Rattle.sg_apery.specs.Fit.{IsFit}
 use Rattle.sg_apery.proofs.GeneratorLemmas.{contains-place, entry-positive, member-listed, member-split}
 use Rattle.sg_invar.proofs.PseudoFrobeniusLemmas.{outside-below, pseudo_frobenius-from_generators, pseudo_frobenius-low}
-use Rattle.sg_ideal.specs.Value.{AreSmall, AreWithin, GeneratesIdeal, IsReflected}
+use Rattle.sg_ideal.specs.Value.{AreWithin, GeneratesIdeal, IsReflected}
+use Rattle.sg_lawful.specs.Generators.{AreSmall}
 use Rattle.sg_ideal.proofs.FromLemmas.{at-natural, natural-at}
 
 -- a listed integer comes from a listed natural

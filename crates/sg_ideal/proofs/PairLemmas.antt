@@ -10,7 +10,8 @@ use Rattle.sg_defs.specs.Ideals.{IsIdealMember, IsInSum, IsInDifference}
 use Rattle.sg_defs.proofs.MembershipLemmas.{member-zero}
 use Rattle.sg_apery.specs.Classes.{IsAboveEntry}
 use Rattle.std.proofs.Common.{to_z, of_z, w64}
-use Rattle.sg_ideal.specs.Value.{IdealValue, IsIn, IsInBoth, IsLeast, IsSmall}
+use Rattle.sg_ideal.specs.Value.{IdealValue, IsIn, IsInBoth, IsLeast}
+use Rattle.sg_lawful.specs.Generators.{IsSmall}
 use Rattle.sg_ideal.specs.Classes.{AreClasses, IsClosedTable, IsFrom, IsIdealTable, IsKept, IsRebased, IsReduced, IsSpread}
 use Rattle.sg_ideal.proofs.FromLemmas.{at-natural, natural-at}
 use Rattle.sg_ideal.proofs.GenerateLemmas.{above-member}

@@ -4,7 +4,8 @@ use Rattle.std.specs.Prelude.{ℤ, pos, neg_ℤ, ◌+ℤ◌}
 use Rattle.std.proofs.lemmas.Int.{by_lt_z}
 use Rattle.std.proofs.lemmas.List.{map-append, take_more}
 use Rattle.std.proofs.lemmas.List.Elements.{Contains-get_or, Contains-push_cases}
-use Rattle.sg_ideal.specs.Value.{AreSmall, HasLarge, IsLarge, IsSmall}
+use Rattle.sg_lawful.specs.declared.limits.TheConstants.{IDEAL_GENERATOR_LIMIT}
+use Rattle.sg_lawful.specs.Generators.{AreSmall, HasLarge, IsLarge, IsSmall}
 use Rattle.sg_ideal.specs.Heads.{raised_by}
 use Rattle.sg_ideal.proofs.KeptLemmas.{raised-to}
 
@@ -16,7 +17,7 @@ small-push l x h p y q = elim (Contains-push_cases l x y q) [ inl before ↦ h y
 
 pub large-from_not : (x : ℤ) → (IsSmall x → ⊥) → IsLarge x
 large-from_not x not =
-    by_lt_z (neg_ℤ (pos 4294967296)) x (λ low. by_lt_z x (pos 4294967296) (λ high. absurd (not (low, high))) (λ past. inr past)) (λ past. inl past)
+    by_lt_z (neg_ℤ IDEAL_GENERATOR_LIMIT) x (λ low. by_lt_z x IDEAL_GENERATOR_LIMIT (λ high. absurd (not (low, high))) (λ past. inr past)) (λ past. inl past)
 
 pub raised-large : (base : ℤ) (H : List ℕ) (k : ℕ) → k < length H → (IsSmall (base +ℤ pos (get_or H k 0)) → ⊥) → HasLarge (raised_by base H)
 raised-large base H k inside not = (base +ℤ pos (get_or H k 0), raised-to base H (get_or H k 0) (Contains-get_or H k 0 inside), large-from_not (base +ℤ pos (get_or H k 0)) not)

@@ -6,7 +6,8 @@ use Rattle.std.proofs.lemmas.Int.{ints}
 use Rattle.std.proofs.lemmas.List.{get_or_default}
 use Rattle.sg_apery.specs.Classes.{IsAboveEntry}
 use Rattle.sg_ideal.specs.Classes.{AreClasses, IsFrom, IsSpread}
-use Rattle.sg_ideal.specs.Value.{AreSmall}
+use Rattle.sg_lawful.specs.declared.limits.TheConstants.{IDEAL_GENERATOR_LIMIT}
+use Rattle.sg_lawful.specs.Generators.{AreSmall}
 use Rattle.sg_ideal.proofs.FromLemmas.{from-shift}
 
 -- one of the first k generators leads to n
@@ -75,8 +76,8 @@ spread-all t base I k list listed all h = record {
 -- where a generator lies
 pub record IsPlaced (base g : ℤ) : Type 0 where
   pub least : base ≤ℤ g
-  pub low : neg_ℤ (pos 4294967296) <ℤ base
-  pub high : g <ℤ pos 4294967296
+  pub low : neg_ℤ IDEAL_GENERATOR_LIMIT <ℤ base
+  pub high : g <ℤ IDEAL_GENERATOR_LIMIT
 
 pub generator-placed : (I : List ℤ) (base : ℤ) (k : ℕ) → Contains I base → AreSmall I → ((x : ℤ) → Contains I x → base ≤ℤ x) → k < length I → IsPlaced base (get_or I k (pos 0))
 generator-placed I base k listed small least inside =

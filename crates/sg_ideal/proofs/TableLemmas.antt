@@ -12,7 +12,8 @@ use Rattle.sg_apery.proofs.DerivedLemmas.{table-member, table-long, table-zero}
 use Rattle.sg_apery.proofs.GeneratorLemmas.{member-listed}
 use Rattle.sg_apery.proofs.KunzLemmas.{zero-residue}
 use Rattle.sg_ideal.specs.Value.{GeneratesIdeal, IsLeast}
-use Rattle.sg_ideal.specs.Classes.{IsAmbient, IsFrom, IsIdealTable, IsSpread}
+use Rattle.sg_ideal.specs.Classes.{IsFrom, IsIdealTable, IsSpread}
+use Rattle.sg_lawful.specs.Lawful.{IsLawfulList}
 use Rattle.sg_ideal.proofs.FromLemmas.{at-natural, natural-at}
 use Rattle.sg_ideal.proofs.GenerateLemmas.{above-zero}
 use Rattle.sg_ideal.proofs.FaultLemmas.{generates-same}
@@ -21,7 +22,7 @@ use Rattle.sg_ideal.proofs.FaultLemmas.{generates-same}
 pub zero-entry : (t : List ℕ) → 0 < length t → IsAboveEntry t 0 → get_or t 0 0 ≡ 0
 zero-entry t positive h = let e = ap (λ r. get_or t r 0) (zero-residue (length t) positive) in omega (arith, e, h)
 
-module _ (G t : List ℕ) (ambient : IsAmbient G) (long : length t ≡ get_or G 0 0) (short : length t ≤ 2 ^ 20) (apery : IsApery G (get_or G 0 0) t)
+module _ (G t : List ℕ) (ambient : IsLawfulList G) (long : length t ≡ get_or G 0 0) (short : length t ≤ 2 ^ 20) (apery : IsApery G (get_or G 0 0) t)
     (small : (i : ℕ) → i < length t → get_or t i 0 ≤ 2 ^ 52) where
   told : (x : ℕ) → IsMember G x ↔ IsAboveEntry t x
   told = table-member G t ambient.semigroup long apery
@@ -111,7 +112,7 @@ minimal-given G given I g x listed =
     ]
 
 -- what integers generate lies from the least of them on
-module _ (G t : List ℕ) (base : ℤ) (I : List ℤ) (list : List ℕ) (ambient : IsAmbient G) (long : length t ≡ get_or G 0 0) (short : length t ≤ 2 ^ 20) (apery : IsApery G (get_or G 0 0) t)
+module _ (G t : List ℕ) (base : ℤ) (I : List ℤ) (list : List ℕ) (ambient : IsLawfulList G) (long : length t ≡ get_or G 0 0) (short : length t ≤ 2 ^ 20) (apery : IsApery G (get_or G 0 0) t)
     (small : (i : ℕ) → i < length t → get_or t i 0 ≤ 2 ^ 52) (least : IsLeast I base) (s : IsSpread t base I list) where
   pub given-table : IsIdealTable G list
   given-table = spread-table G t base I list (semigroup-table G t ambient long short apery small) least s

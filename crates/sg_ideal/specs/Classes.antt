@@ -1,10 +1,11 @@
 -- Sets of naturals that are closed under adding the modulus, by the least number in each residue class.
 use Rattle.std.specs.Prelude.{◌≡◌, ℕ, ℤ, pos, ◌+ℤ◌, ◌-ℤ◌, ◌+◌, ◌-◌, ◌*◌, ◌%◌, ◌<◌, ◌≤◌, ◌↔◌, List, length, slice_index, slice_index_or, Contains}
-use Rattle.sg_defs.specs.Membership.{IsNumericalSemigroup, IsMinimal, AtNatural}
+use Rattle.sg_defs.specs.Membership.{AtNatural}
 use Rattle.sg_apery.specs.Classes.{IsAboveEntry}
-use Rattle.sg_apery.specs.Fit.{IsFit}
+use Rattle.sg_lawful.specs.Lawful.{IsLawfulList}
 use Rattle.sg_apery.specs.declared.limits.TheConstants.{ENTRY_LIMIT, MULTIPLICITY_LIMIT}
-use Rattle.sg_ideal.specs.Value.{GeneratesIdeal, AreSmall}
+use Rattle.sg_ideal.specs.Value.{GeneratesIdeal}
+use Rattle.sg_lawful.specs.Generators.{AreSmall}
 
 -- entry i is congruent to i modulo the number of entries, and none is past what an Apery list may hold
 pub record AreClasses (t : List ℕ) : Type 0 where
@@ -29,15 +30,9 @@ pub record IsReach (t : List ℕ) (b count : ℕ) (list : List ℕ) : Type 0 whe
   pub classes : AreClasses list
   pub same : (n : ℕ) → IsAboveEntry list n ↔ ((e : ℕ) × (e ≤ count) × (e * b ≤ n) × IsAboveEntry t (n - e * b))
 
--- the minimal list of a numerical semigroup within the limits
-pub record IsAmbient (G : List ℕ) : Type 0 where
-  pub semigroup : IsNumericalSemigroup G
-  pub minimal : IsMinimal G
-  pub fit : IsFit G
-
 -- t tells the numbers of a set that each generator of G moves into itself, of which 0 is the least
 pub record IsIdealTable (G t : List ℕ) : Type 0 where
-  pub ambient : IsAmbient G
+  pub ambient : IsLawfulList G
   pub classes : AreClasses t
   pub multiplicity : length t ≡ slice_index G 0
   pub zero : slice_index t 0 ≡ 0
@@ -45,7 +40,7 @@ pub record IsIdealTable (G t : List ℕ) : Type 0 where
 
 -- t tells the numbers of a set that each generator of G moves into itself
 pub record IsClosedTable (G t : List ℕ) : Type 0 where
-  pub ambient : IsAmbient G
+  pub ambient : IsLawfulList G
   pub classes : AreClasses t
   pub multiplicity : length t ≡ slice_index G 0
   pub closed : (n g : ℕ) → Contains G g → IsAboveEntry t n → IsAboveEntry t (n + g)

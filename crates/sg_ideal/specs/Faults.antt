@@ -2,7 +2,8 @@
 use Rattle.std.specs.Prelude.{◌≡◌, ◌≢◌, ℕ, ℤ, List, []}
 use Rattle.sg_ideal.specs.declared.fault.IdealFault.{IdealFault}
 use Rattle.sg_ideal.specs.declared.fault.IdealFault.TheVariants.{BadArgument, TooLarge, Memory}
-use Rattle.sg_ideal.specs.Value.{IdealValue, AreSmall, HasLarge, HasLargeGenerator}
+use Rattle.sg_ideal.specs.Value.{IdealValue, HasLargeGenerator}
+use Rattle.sg_lawful.specs.Generators.{AreSmall, HasLarge}
 
 -- an entry is past the limit; then there is none
 abbrev pub AreRefused : List ℤ → IdealFault → Type 0

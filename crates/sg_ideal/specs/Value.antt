@@ -1,7 +1,7 @@
 -- Relative ideals as contracts see them.
-use Rattle.std.specs.Prelude.{◌≡◌, ℕ, zero, suc, ◌+ℤ◌, ◌*◌, ◌-◌, ◌<◌, ℤ, pos, negsuc, neg_ℤ, ◌-ℤ◌, slice_index_or, ◌<ℤ◌, ◌≤ℤ◌, ◌⊎◌, ◌↔◌, List, length, Contains}
+use Rattle.std.specs.Prelude.{◌≡◌, ℕ, zero, suc, ◌+ℤ◌, ◌*◌, ◌-◌, ◌<◌, ℤ, pos, negsuc, ◌-ℤ◌, slice_index_or, ◌≤ℤ◌, ◌↔◌, List, length, Contains}
 use Rattle.sg_defs.specs.Ideals.{IsIdealMember, IsMinimalIdeal}
-use Rattle.sg_ideal.specs.declared.limits.TheConstants.{GENERATOR_LIMIT}
+pub use Rattle.sg_lawful.specs.Generators.{IsSmall, IsLarge, AreSmall, HasLarge}
 use Rattle.sg_apery.specs.declared.limits.TheConstants.{ENTRY_LIMIT, MULTIPLICITY_LIMIT}
 
 -- the minimal generators of the ambient semigroup, and those of the ideal
@@ -16,22 +16,6 @@ IsIn I x = IsIdealMember I.ambient I.generators x
 -- a member of both
 abbrev pub IsInBoth : (ℤ → Type 0) → (ℤ → Type 0) → ℤ → Type 0
 IsInBoth P Q x = P x × Q x
-
--- the absolute value is below the limit
-abbrev pub IsSmall : ℤ → Type 0
-IsSmall x = (neg_ℤ GENERATOR_LIMIT <ℤ x) × (x <ℤ GENERATOR_LIMIT)
-
--- the absolute value is not below the limit
-abbrev pub IsLarge : ℤ → Type 0
-IsLarge x = (x ≤ℤ neg_ℤ GENERATOR_LIMIT) ⊎ (GENERATOR_LIMIT ≤ℤ x)
-
--- each entry's absolute value is below the limit
-abbrev pub AreSmall : List ℤ → Type 0
-AreSmall I = (x : ℤ) → Contains I x → IsSmall x
-
--- some entry's is not
-abbrev pub HasLarge : List ℤ → Type 0
-HasLarge I = (x : ℤ) × Contains I x × IsLarge x
 
 -- an entry that is above no other
 pub record IsLeast (I : List ℤ) (x : ℤ) : Type 0 where

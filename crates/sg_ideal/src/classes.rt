@@ -3,7 +3,8 @@
 ghost use Rattle.std.specs.Prelude.{◌≡◌, ◌+◌, ◌-◌, ◌^◌, ◌<◌, ◌≤◌, ◌⊎◌, ◌↔◌, ℕ, ℤ, ◌≤ℤ◌, length, Contains, IfOk, IsTrue};
 ghost use Rattle.sg_apery.specs.Classes.{IsAboveEntry};
 ghost use Rattle.sg_ideal.specs.Classes.{AreClasses, IsEveryClass, IsLeastAbove, IsReach, IsRebased, IsReduced, IsSpread};
-ghost use Rattle.sg_ideal.specs.Value.{AreSmall, IsLeast};
+ghost use Rattle.sg_ideal.specs.Value.{IsLeast};
+ghost use Rattle.sg_lawful.specs.Generators.{AreSmall};
 
 use sg_apery::MULTIPLICITY_LIMIT;
 use std::alloc::{AllocError, Global};

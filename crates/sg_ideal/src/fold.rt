@@ -4,13 +4,14 @@ ghost use Rattle.std.specs.Prelude.{◌≡◌, ◌*◌, ◌<◌, ◌↔◌, ℤ,
 ghost use Rattle.sg_defs.specs.Ideals.{IsInMultiple};
 ghost use Rattle.sg_ideal.specs.Classes.{IsFrom, IsIdealTable};
 ghost use Rattle.sg_ideal.specs.Faults.{IsMultipleRefused};
-ghost use Rattle.sg_ideal.specs.Value.{IsIdealOf, IsIn, IsLarge, IsSmall, times};
+ghost use Rattle.sg_ideal.specs.Value.{IsIdealOf, IsIn, times};
+ghost use Rattle.sg_lawful.specs.Generators.{IsLarge, IsSmall};
 
 use crate::classes::{reach, spread};
 use crate::fault::IdealFault;
 use crate::ideal::Ideal;
-use crate::limits::GENERATOR_LIMIT;
 use crate::made::from_table;
+use sg_lawful::IDEAL_GENERATOR_LIMIT;
 use std::alloc::{AllocError, Global};
 
 /// `k` times a number, or None where that is past the limit.
@@ -21,7 +22,7 @@ fn product(k: u64, x: i64) -> Option<i64>
     let Some(size) = k.checked_mul(x.unsigned_abs()) else {
         return None;
     };
-    if size >= GENERATOR_LIMIT as u64 {
+    if size >= IDEAL_GENERATOR_LIMIT as u64 {
         return None;
     }
     if x < 0 {

@@ -1,15 +1,16 @@
 //! What is asked of given generators.
 
 ghost use Rattle.std.specs.Prelude.{◌≡◌, [], ◌↔◌, IsTrue, MatchBool, MatchOption};
-ghost use Rattle.sg_ideal.specs.Value.{AreSmall, HasLarge, IsLeast, IsSmall};
+ghost use Rattle.sg_ideal.specs.Value.{IsLeast};
+ghost use Rattle.sg_lawful.specs.Generators.{AreSmall, HasLarge, IsSmall};
 
-use crate::limits::GENERATOR_LIMIT;
+use sg_lawful::IDEAL_GENERATOR_LIMIT;
 
 /// Whether a number's absolute value is below the limit.
 pub(crate) fn is_small(x: i64) -> bool
     ensures { IsTrue result ↔ IsSmall x }
 {
-    -GENERATOR_LIMIT < x && x < GENERATOR_LIMIT
+    -IDEAL_GENERATOR_LIMIT < x && x < IDEAL_GENERATOR_LIMIT
 }
 
 /// Whether each number's absolute value is below the limit.

@@ -7,7 +7,7 @@ ghost use Rattle.sg_apery.specs.Classes.{IsAboveEntry};
 ghost use Rattle.sg_ideal.specs.Classes.{AreClasses, IsIdealTable};
 ghost use Rattle.sg_ideal.specs.Heads.{CollectsHeads, IsFree, IsHead, raised_by};
 ghost use Rattle.sg_ideal.specs.Faults.{IsListFault};
-ghost use Rattle.sg_ideal.specs.Value.{AreSmall};
+ghost use Rattle.sg_lawful.specs.Generators.{AreSmall};
 
 use crate::classes::is_above;
 use crate::fault::IdealFault;

@@ -5,7 +5,8 @@ ghost use Rattle.sg_defs.specs.Ideals.{IsIdealMember, IsMinimalIdeal};
 ghost use Rattle.sg_defs.specs.Membership.{IsNumericalSemigroup};
 ghost use Rattle.sg_ideal.specs.Classes.{HasEntries, IsKept};
 ghost use Rattle.sg_ideal.specs.Faults.{AreRefused};
-ghost use Rattle.sg_ideal.specs.Value.{IdealValue, AreSmall, IsIdealOf, IsIn, IsLeast, IsSmall};
+ghost use Rattle.sg_ideal.specs.Value.{IdealValue, IsIdealOf, IsIn, IsLeast};
+ghost use Rattle.sg_lawful.specs.Generators.{AreSmall, IsSmall};
 
 use crate::classes::{is_above, spread};
 use crate::fault::IdealFault;

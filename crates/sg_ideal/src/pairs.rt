@@ -4,7 +4,8 @@ ghost use Rattle.std.specs.Prelude.{◌≡◌, ◌↔◌, ◌⊎◌, ℤ, pos, �
 ghost use Rattle.sg_defs.specs.Ideals.{IsInDifference, IsInSum};
 ghost use Rattle.sg_ideal.specs.Classes.{IsClosedTable, IsFrom};
 ghost use Rattle.sg_ideal.specs.Faults.{IsPairRefused};
-ghost use Rattle.sg_ideal.specs.Value.{IsIdealOf, IsIn, IsInBoth, IsSmall};
+ghost use Rattle.sg_ideal.specs.Value.{IsIdealOf, IsIn, IsInBoth};
+ghost use Rattle.sg_lawful.specs.Generators.{IsSmall};
 
 use crate::classes::{narrow, rebased, reduce, spread};
 use crate::fault::IdealFault;

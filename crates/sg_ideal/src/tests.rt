@@ -1,11 +1,9 @@
 //! Ideals of small semigroups, each call with ample memory, and numbers at the ends of the range.
 
-use crate::{
-    GENERATOR_LIMIT, Ideal, IdealFault, canonical, intersect, maximal, multiple, subtract, sum,
-    translate,
-};
+use crate::{Ideal, IdealFault, canonical, intersect, maximal, multiple, subtract, sum, translate};
 use sg_apery::Table;
 use sg_invar::pseudo_frobenius;
+use sg_lawful::IDEAL_GENERATOR_LIMIT;
 use std::alloc::{AllocError, Global};
 use std::test::Fail;
 
@@ -75,7 +73,12 @@ fn multiples(rt: HostRuntime) -> Result<(), Fail> {
 fn translates(rt: HostRuntime) -> Result<(), Fail> {
     let i = example(rt.alloc())?;
     assert!(rt; has_list(rt.alloc(), &translate(rt.alloc(), 5, &i)?, &[5, 6])?);
-    for x in [i64::MIN, -GENERATOR_LIMIT, GENERATOR_LIMIT - 1, i64::MAX] {
+    for x in [
+        i64::MIN,
+        -IDEAL_GENERATOR_LIMIT,
+        IDEAL_GENERATOR_LIMIT - 1,
+        i64::MAX,
+    ] {
         assert!(rt; is_large(translate(rt.alloc(), x, &i)), "at {x}");
     }
     Ok(())
@@ -111,8 +114,8 @@ fn the_maximal_ideal_and_its_members(rt: HostRuntime) -> Result<(), Fail> {
 fn generators_that_are_refused(rt: HostRuntime) -> Result<(), Fail> {
     let s = Table::from_generators(rt.alloc(), &[3, 5])?;
     assert!(rt; is_bad(Ideal::of_generators(rt.alloc(), &s, &[])));
-    assert!(rt; is_large(Ideal::of_generators(rt.alloc(), &s, &[0, GENERATOR_LIMIT])));
-    assert!(rt; is_large(Ideal::of_generators(rt.alloc(), &s, &[-GENERATOR_LIMIT])));
+    assert!(rt; is_large(Ideal::of_generators(rt.alloc(), &s, &[0, IDEAL_GENERATOR_LIMIT])));
+    assert!(rt; is_large(Ideal::of_generators(rt.alloc(), &s, &[-IDEAL_GENERATOR_LIMIT])));
     Ok(())
 }
 

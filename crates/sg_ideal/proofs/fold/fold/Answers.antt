@@ -4,7 +4,8 @@ use Rattle.std.proofs.lemmas.Int.{ints}
 use Rattle.std.proofs.lemmas.Result.{IfOk-weaker}
 use Rattle.sg_defs.specs.Ideals.{IsInMultiple}
 use Rattle.sg_ideal.specs.Classes.{IsFrom, IsIdealTable, IsKept, IsReach}
-use Rattle.sg_ideal.specs.Value.{AreSmall, IsIn, times}
+use Rattle.sg_ideal.specs.Value.{IsIn, times}
+use Rattle.sg_lawful.specs.Generators.{AreSmall}
 use Rattle.sg_ideal.proofs.SpreadLemmas.{generator-placed}
 use Rattle.sg_ideal.proofs.PairLemmas.{first-least}
 use Rattle.sg_ideal.proofs.GatherLemmas.{pair-fold}

@@ -2,7 +2,8 @@ use Rattle.std.proofs.Common.{◌≡◌, ℕ, ◌*◌, ◌<◌, List, length, ge
 use Rattle.std.specs.Prelude.{nat_abs}
 use Rattle.std.proofs.lemmas.Int.{ints}
 use Rattle.sg_ideal.specs.Classes.{IsReach}
-use Rattle.sg_ideal.specs.Value.{AreSmall, IsLeast}
+use Rattle.sg_ideal.specs.Value.{IsLeast}
+use Rattle.sg_lawful.specs.Generators.{AreSmall}
 use Rattle.sg_ideal.proofs.SpreadLemmas.{IsPlaced, generator-placed}
 use Rattle.sg_ideal.proofs.GatherLemmas.{gather-none, gather-more, gather-all}
 use Rattle.sg_ideal.proofs.fold.gather.Goals as goal

@@ -1,7 +1,8 @@
 use Rattle.std.proofs.Common.{◌≡◌, ◌∙◌, get_or, refl, ap, subst, ℤ, pos, to_z, of_z, w64, arith}
 use Rattle.std.proofs.lemmas.Int.{ints}
 use Rattle.sg_defs.specs.Ideals.{IsInMultiple}
-use Rattle.sg_ideal.specs.Value.{IsIn, IsLarge, IsSmall, times}
+use Rattle.sg_ideal.specs.Value.{IsIn, times}
+use Rattle.sg_lawful.specs.Generators.{IsLarge, IsSmall}
 use Rattle.sg_ideal.proofs.MultipleLemmas.{multiple-large}
 use Rattle.sg_ideal.proofs.FinishLemmas.{finish-made, finish-refused, multiple-refused}
 use Rattle.sg_ideal.proofs.fold.multiple.Goals as goal

@@ -1,6 +1,7 @@
-use Rattle.std.proofs.Common.{◌≡◌, ◌*◌, ◌≤◌, ◌∙◌, ap, subst, w64, arith}
-use Rattle.std.specs.Prelude.{nat_abs}
+use Rattle.std.proofs.Common.{◌≡◌, ◌*◌, ◌∙◌, ap, subst, w64, arith}
+use Rattle.std.specs.Prelude.{nat_abs, pos, ◌≤ℤ◌}
 use Rattle.std.proofs.lemmas.Int.{ints, to_z-of_z}
+use Rattle.sg_lawful.specs.declared.limits.TheConstants.{IDEAL_GENERATOR_LIMIT}
 use Rattle.sg_ideal.proofs.FoldLemmas.{times-above, times-below, times-large}
 use Rattle.sg_ideal.proofs.fold.product.Goals as goal
 
@@ -10,8 +11,8 @@ returns-in_default c =
     let x = c.args.x in
     let u : c.unsigned_abs.result ≡ nat_abs x = c.unsigned_abs.ensures.value ∙ ap nat_abs (to_z-of_z w64 x c.ranges.x) in
     let not = c.in_default.ensures in
-    let far : 4294967296 ≤ k * c.unsigned_abs.result = omega arith in
-    times-large k x (subst (λ n. 4294967296 ≤ k * n) u far)
+    let far : IDEAL_GENERATOR_LIMIT ≤ℤ pos (k * c.unsigned_abs.result) = omega (arith, ints) in
+    times-large k x (subst (λ n. IDEAL_GENERATOR_LIMIT ≤ℤ pos (k * n)) u far)
 
 pub returns-then-size : goal.returns-then-size
 returns-then-size c =
@@ -19,8 +20,8 @@ returns-then-size c =
     let x = c.args.x in
     let u : c.unsigned_abs.result ≡ nat_abs x = c.unsigned_abs.ensures.value ∙ ap nat_abs (to_z-of_z w64 x c.ranges.x) in
     let e = c.in-Some.ensures.1 in
-    let far : 4294967296 ≤ k * c.unsigned_abs.result = omega (arith, e, c.if-size.true) in
-    times-large k x (subst (λ n. 4294967296 ≤ k * n) u far)
+    let far : IDEAL_GENERATOR_LIMIT ≤ℤ pos (k * c.unsigned_abs.result) = omega (arith, ints, e, c.if-size.true) in
+    times-large k x (subst (λ n. IDEAL_GENERATOR_LIMIT ≤ℤ pos (k * n)) u far)
 
 pub returns-then-x-lt0 : goal.returns-then-x-lt0
 returns-then-x-lt0 c =

@@ -2,7 +2,8 @@ use Rattle.std.proofs.Common.{◌≡◌, ℕ, ◌+◌, ◌-◌, ◌∙◌, List,
 use lib.Pointwise.{pointwise}
 use lib.Dec.{eqb}
 use Rattle.sg_ideal.specs.Classes.{IsSpread}
-use Rattle.sg_ideal.specs.Value.{IsLeast, IsSmall}
+use Rattle.sg_ideal.specs.Value.{IsLeast}
+use Rattle.sg_lawful.specs.Generators.{IsSmall}
 use Rattle.sg_ideal.proofs.FoldLemmas.{IsFold, fold-one, fold-more, fold-stays}
 use Rattle.sg_ideal.proofs.PairLemmas.{passed-least, passed-spread}
 use Rattle.sg_ideal.proofs.fold.steps.Goals as goal

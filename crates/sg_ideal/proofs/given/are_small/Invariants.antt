@@ -1,5 +1,5 @@
 use Rattle.std.proofs.Common.{ℕ, ◌<◌, slice_index_or, pos}
-use Rattle.sg_ideal.specs.Value.{IsSmall}
+use Rattle.sg_lawful.specs.Generators.{IsSmall}
 use Rattle.sg_ideal.proofs.given.are_small.Given as goal
 
 abbrev pub invariant-loop-number : goal.invariant-loop-number

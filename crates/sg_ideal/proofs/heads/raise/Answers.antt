@@ -1,6 +1,6 @@
 use Rattle.std.proofs.Common.{◌≡◌, ◌++◌, [], ◌∷◌, get_or, refl, sym, ap, subst, ◌∙◌, arith, pos, ◌+ℤ◌, to_z, of_z, w64}
 use Rattle.std.proofs.lemmas.Int.{ints}
-use Rattle.sg_ideal.specs.Value.{AreSmall, IsSmall}
+use Rattle.sg_lawful.specs.Generators.{AreSmall, IsSmall}
 use Rattle.sg_ideal.proofs.RaiseLemmas.{raised-push, raised-large, small-push}
 use Rattle.sg_ideal.proofs.heads.raise.Goals as goal
 

@@ -1,6 +1,6 @@
 use Rattle.std.proofs.Common.{◌≡◌, take}
 use Rattle.sg_ideal.specs.Heads.{raised_by}
-use Rattle.sg_ideal.specs.Value.{AreSmall}
+use Rattle.sg_lawful.specs.Generators.{AreSmall}
 use Rattle.sg_ideal.proofs.heads.raise.Given as goal
 
 abbrev pub invariant-loop-number : goal.invariant-loop-number

@@ -5,7 +5,8 @@ use Rattle.sg_defs.specs.Listings.{Lists}
 use Rattle.sg_ideal.specs.Classes.{IsFrom, IsKept}
 use Rattle.sg_ideal.specs.Heads.{IsHead, raised_by}
 use Rattle.sg_ideal.specs.Faults.{IsListFault}
-use Rattle.sg_ideal.specs.Value.{AreSmall, GeneratesIdeal, IsSmall}
+use Rattle.sg_ideal.specs.Value.{GeneratesIdeal}
+use Rattle.sg_lawful.specs.Generators.{AreSmall, IsSmall}
 use Rattle.sg_ideal.proofs.HeadLemmas.{heads-small}
 use Rattle.sg_ideal.proofs.KeptLemmas.{heads-generate, heads-kept}
 use Rattle.sg_ideal.proofs.FaultLemmas.{size-fault}

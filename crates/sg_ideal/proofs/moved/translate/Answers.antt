@@ -1,7 +1,8 @@
 use Rattle.std.proofs.Common.{◌≡◌, get_or, arith, ℤ, pos, ◌+ℤ◌, to_z, of_z, w64}
 use Rattle.std.proofs.lemmas.Int.{ints}
 use Rattle.sg_defs.specs.Ideals.{IsInTranslate}
-use Rattle.sg_ideal.specs.Value.{IsIn, IsSmall}
+use Rattle.sg_ideal.specs.Value.{IsIn}
+use Rattle.sg_lawful.specs.Generators.{IsSmall}
 use Rattle.sg_ideal.specs.Classes.{IsFrom}
 use mir.Val.{SFits}
 use Rattle.sg_ideal.proofs.ExistLemmas.{large-base}

@@ -1,7 +1,8 @@
 use Rattle.std.proofs.Common.{◌≡◌, ◌<◌, ◌∙◌, length, map, sym, ap, subst, pos, arith}
 use Rattle.std.proofs.lemmas.List.{length-map}
 use Rattle.sg_defs.specs.Ideals.{IsIdealMember, IsInMaximal}
-use Rattle.sg_ideal.specs.Value.{AreSmall, IsIdealOf}
+use Rattle.sg_ideal.specs.Value.{IsIdealOf}
+use Rattle.sg_lawful.specs.Generators.{AreSmall}
 use Rattle.sg_ideal.proofs.FaultLemmas.{ideal-same, only-memory}
 use Rattle.sg_ideal.proofs.OwnLemmas.{integers-small, maximal-same}
 use Rattle.sg_ideal.proofs.own.maximal.Goals as goal

@@ -3,7 +3,8 @@ use Rattle.std.specs.Prelude.{nat_abs}
 use Rattle.std.proofs.lemmas.Int.{ints}
 use Rattle.sg_apery.specs.Classes.{IsAboveEntry}
 use Rattle.sg_apery.proofs.LeastLemmas.{writes-back}
-use Rattle.sg_ideal.specs.Value.{IsIn, IsInBoth, IsSmall}
+use Rattle.sg_ideal.specs.Value.{IsIn, IsInBoth}
+use Rattle.sg_lawful.specs.Generators.{IsSmall}
 use Rattle.sg_ideal.specs.Classes.{IsClosedTable, IsFrom}
 use Rattle.sg_ideal.proofs.PairLemmas.{common-same, common-table}
 use Rattle.sg_ideal.proofs.pairs.common.Goals as goal

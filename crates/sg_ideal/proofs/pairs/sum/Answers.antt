@@ -1,7 +1,8 @@
 use Rattle.std.proofs.Common.{◌≡◌, ℕ, List, get_or, refl, sym, subst, arith, ℤ, pos, ◌+ℤ◌, to_z, of_z, w64}
 use Rattle.std.proofs.lemmas.Int.{ints}
 use Rattle.sg_defs.specs.Ideals.{IsInSum}
-use Rattle.sg_ideal.specs.Value.{AreSmall, IsIn, IsLeast, IsSmall}
+use Rattle.sg_ideal.specs.Value.{IsIn, IsLeast}
+use Rattle.sg_lawful.specs.Generators.{AreSmall, IsSmall}
 use Rattle.sg_ideal.specs.Classes.{IsIdealTable, IsSpread}
 use Rattle.sg_ideal.proofs.FinishLemmas.{finish-made, finish-refused, on-ok, pair-refused}
 use Rattle.sg_ideal.proofs.PairLemmas.{passed-least, passed-spread, sum-same, sum-table}

@@ -4,7 +4,8 @@ use Rattle.std.proofs.lemmas.Result.{IfOk-weaker, IfErr-weaker}
 use Rattle.sg_defs.specs.Ideals.{IsIdealMember}
 use Rattle.sg_ideal.specs.Classes.{IsFrom, IsIdealTable, IsSpread}
 use Rattle.sg_ideal.specs.Faults.{AreRefused, IsSizeFault}
-use Rattle.sg_ideal.specs.Value.{AreSmall, IsIdealOf, IsLeast}
+use Rattle.sg_ideal.specs.Value.{IsIdealOf, IsLeast}
+use Rattle.sg_lawful.specs.Generators.{AreSmall}
 use Rattle.sg_ideal.proofs.FaultLemmas.{given-faults, ideal-same}
 use Rattle.sg_ideal.proofs.TableLemmas.{given-listed, given-same, given-table}
 use Rattle.sg_ideal.proofs.ideal.Ideal.generated.Goals as goal
