@@ -1,0 +1,11 @@
+pub mod ElementLemmas
+pub mod LevelLemmas
+pub mod FactorizationLemmas
+pub mod PartialLemmas
+pub mod CountLemmas
+pub mod KeepLemmas
+pub mod SearchLemmas
+pub mod OneListLemmas
+pub mod WalkDecisions
+pub mod NumberLemmas
+pub mod SetLemmas
