@@ -5,7 +5,8 @@ use Rattle.std.specs.Prelude.{◌==◌}
 use Rattle.std.proofs.lemmas.Bool.{cases_Bool, cond_both, and_parts, and_from, or_parts, not-true, not-false, eqb-true, not_from_true, false_from_ne_true, false≢true}
 use Rattle.std.proofs.lemmas.List.{take_at, drop_at}
 use Rattle.std.proofs.Math.Numerals.{one-add}
-use Rattle.sg_cut.specs.Lexemes.{IsLexeme, IsWord, IsSingle, IsQuoted, IsInside, Closes, EndsRun, is_inline, is_plain, is_word_byte}
+use Rattle.sg_cut.specs.Bytes.{is_inline, is_word_byte}
+use Rattle.sg_cut.specs.Lexemes.{IsLexeme, IsWord, IsSingle, IsQuoted, IsInside, Closes, EndsRun, is_plain}
 use Rattle.sg_cut.specs.Lexemes.IsLexeme.{comment, word, string, single}
 use Rattle.sg_cut.specs.Lexemes.IsInside.{none, plain, escaped}
 use Rattle.sg_cut.specs.Lexemes.Closes.{quote, line, backslash}

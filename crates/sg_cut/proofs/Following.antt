@@ -2,7 +2,8 @@
 use Rattle.std.proofs.Common.{◌≡◌, ℕ, ◌<◌, ◌≤◌, Bool, false, List, [], ◌∷◌, ◌++◌, length, drop, arith, length-append}
 use Rattle.std.specs.List.{concat}
 use Rattle.std.proofs.lemmas.List.{drop-append-le, length-drop, take-append-le}
-use Rattle.sg_cut.specs.Lexemes.{IsLexeme, Closes, AreLexemes, EndsRun, is_inline, is_word_byte}
+use Rattle.sg_cut.specs.Bytes.{is_inline, is_word_byte}
+use Rattle.sg_cut.specs.Lexemes.{IsLexeme, Closes, AreLexemes, EndsRun}
 use Rattle.sg_cut.specs.Lexemes.IsLexeme.{comment, word, string, single}
 use Rattle.sg_cut.specs.Lexemes.Closes.{quote, line, backslash}
 use Rattle.sg_cut.specs.Cut.{AreIgnored, Begins, Ends, IsStatement, starts_ignored}

@@ -4,7 +4,8 @@ use Rattle.std.proofs.lemmas.List.{drop-append-le, length-drop, length-take, tak
 use Rattle.std.proofs.lemmas.Bool.{both_ways, false≢true, cases_lt}
 use Rattle.sg_cut.specs.declared.outcome.Piece.{Piece}
 use Rattle.sg_cut.specs.declared.outcome.Piece.TheVariants.{Statement, TooLong, Unfinished, End, Waiting}
-use Rattle.sg_cut.specs.Cut.{Begins, Cut, Ends, IsAtEnd, IsTooLong, IsUnfinished, IsWaiting, StandsAt, longest_statement}
+use Rattle.sg_cut.specs.declared.limits.TheConstants.{STATEMENT_LIMIT}
+use Rattle.sg_cut.specs.Cut.{Begins, Cut, Ends, IsAtEnd, IsTooLong, IsUnfinished, IsWaiting, StandsAt}
 use Rattle.sg_cut.proofs.Beginnings.{begin_found, same_begin, to_Begins}
 use Rattle.sg_cut.proofs.Endings.{EndsFrom, end_or_none, from_Ends, same_end, to_Ends}
 use Rattle.sg_cut.proofs.Following.{Begins-append, Ends-append, Ends-front}
@@ -12,7 +13,7 @@ use Rattle.sg_cut.proofs.Following.{Begins-append, Ends-append, Ends-front}
 -- ---- how each outcome comes about
 
 -- a statement that ends so far behind the byte that it begins with
-pub statement_behind : (bytes : List ℕ) (begin size : ℕ) → Begins bytes begin → size ≤ longest_statement → Ends (drop begin bytes) size → StandsAt bytes begin (begin + size)
+pub statement_behind : (bytes : List ℕ) (begin size : ℕ) → Begins bytes begin → size ≤ STATEMENT_LIMIT → Ends (drop begin bytes) size → StandsAt bytes begin (begin + size)
 statement_behind bytes begin size b small e =
     let counted : size ≡ (begin + size) - begin = omega arith in
     let last = (from_Ends e).size_is in
@@ -26,7 +27,7 @@ statement_behind bytes begin size b small e =
     }
 
 -- the same, seen in a front of what is left
-pub finds_statement : (bytes : List ℕ) (begin most size : ℕ) → Begins bytes begin → most ≤ longest_statement → Ends (take most (drop begin bytes)) size → size ≤ most → StandsAt bytes begin (begin + size)
+pub finds_statement : (bytes : List ℕ) (begin most size : ℕ) → Begins bytes begin → most ≤ STATEMENT_LIMIT → Ends (take most (drop begin bytes)) size → size ≤ most → StandsAt bytes begin (begin + size)
 finds_statement bytes begin most size b small e within =
     let rest = drop begin bytes in
     let whole : Ends rest size = subst (λ bs. Ends bs size) (take-append-drop most rest) (Ends-append (take most rest) (drop most rest) size e) in
@@ -41,9 +42,9 @@ no_end_within bytes begin most there none size within e =
     none size (Ends-front (take most rest) (drop most rest) size (omega (arith, len)) parted)
 
 -- as much as a statement may have, without end
-pub is_too_long : (bytes : List ℕ) (begin : ℕ) → Begins bytes begin → longest_statement ≤ length (drop begin bytes) → ((size : ℕ) → ¬ Ends (take longest_statement (drop begin bytes)) size) → IsTooLong bytes begin
+pub is_too_long : (bytes : List ℕ) (begin : ℕ) → Begins bytes begin → STATEMENT_LIMIT ≤ length (drop begin bytes) → ((size : ℕ) → ¬ Ends (take STATEMENT_LIMIT (drop begin bytes)) size) → IsTooLong bytes begin
 is_too_long bytes begin b there none =
-    record { begins = b; filled = omega (arith, length-drop begin bytes, b.within); no_end = no_end_within bytes begin longest_statement there none }
+    record { begins = b; filled = omega (arith, length-drop begin bytes, b.within); no_end = no_end_within bytes begin STATEMENT_LIMIT there none }
 
 -- ---- at most one
 
@@ -56,7 +57,7 @@ same_statement {bytes} {begin} {end} {begin'} {end'} s s' =
     (b, omega (arith, e, b, s.some, s'.some))
 
 -- a statement ends where it stands
-no_end_where_statement : {bytes : List ℕ} {begin end begin' : ℕ} → StandsAt bytes begin end → Begins bytes begin' → ((size : ℕ) → size ≤ longest_statement → ¬ Ends (drop begin' bytes) size) → ⊥
+no_end_where_statement : {bytes : List ℕ} {begin end begin' : ℕ} → StandsAt bytes begin end → Begins bytes begin' → ((size : ℕ) → size ≤ STATEMENT_LIMIT → ¬ Ends (drop begin' bytes) size) → ⊥
 no_end_where_statement {bytes} {begin} {end} {begin'} s b none =
     let same : begin ≡ begin' = same_begin s.begins b in
     none (end - begin) (omega (arith, s.short)) (subst (λ n. Ends (drop n bytes) (end - begin)) same s.ends)
@@ -129,7 +130,7 @@ waits_behind_ignored bytes whole open_ b = record {
 }
 
 -- fewer bytes than a statement may have, none of which ends it, and there may be more
-pub waits_inside : (bytes : List ℕ) (whole : Bool) (begin : ℕ) → whole ≡ false → Begins bytes begin → length bytes < begin + longest_statement → ((size : ℕ) → ¬ Ends (drop begin bytes) size) → IsWaiting bytes whole
+pub waits_inside : (bytes : List ℕ) (whole : Bool) (begin : ℕ) → whole ≡ false → Begins bytes begin → length bytes < begin + STATEMENT_LIMIT → ((size : ℕ) → ¬ Ends (drop begin bytes) size) → IsWaiting bytes whole
 waits_inside bytes whole begin open_ b few none = record {
   no_statement = λ begin' end s. no_end_where_statement s b (λ size small. none size);
   not_too_long = λ begin' t. omega (arith, same_begin t.begins b, t.filled, few);
@@ -138,7 +139,7 @@ waits_inside bytes whole begin open_ b few none = record {
 }
 
 -- fewer bytes than a statement may have, none of which ends it, and these are all
-pub is_unfinished : (bytes : List ℕ) (whole : Bool) (begin : ℕ) → whole ≡ true → Begins bytes begin → begin < length bytes → length bytes < begin + longest_statement → ((size : ℕ) → ¬ Ends (drop begin bytes) size) → IsUnfinished bytes whole begin
+pub is_unfinished : (bytes : List ℕ) (whole : Bool) (begin : ℕ) → whole ≡ true → Begins bytes begin → begin < length bytes → length bytes < begin + STATEMENT_LIMIT → ((size : ℕ) → ¬ Ends (drop begin bytes) size) → IsUnfinished bytes whole begin
 is_unfinished bytes whole begin all b some few none =
     record { complete = all; begins = b; some = some; few = few; no_end = none }
 
@@ -152,12 +153,12 @@ found_at_end bytes true b = (End, record { complete = refl; nothing_left = b }, 
 found_at_end bytes false b = (Waiting, waits_behind_ignored bytes false refl b, λ all is. false≢true all)
 
 -- fewer bytes than a statement may have, none of which ends it
-found_without_end : (bytes : List ℕ) (whole : Bool) (begin : ℕ) → Begins bytes begin → begin < length bytes → length bytes < begin + longest_statement → ((size : ℕ) → ¬ Ends (drop begin bytes) size) → Found bytes whole
+found_without_end : (bytes : List ℕ) (whole : Bool) (begin : ℕ) → Begins bytes begin → begin < length bytes → length bytes < begin + STATEMENT_LIMIT → ((size : ℕ) → ¬ Ends (drop begin bytes) size) → Found bytes whole
 found_without_end bytes true begin b some few none = (Unfinished begin, is_unfinished bytes true begin refl b some few none, λ all is. cc)
 found_without_end bytes false begin b some few none = (Waiting, waits_inside bytes false begin refl b few none, λ all is. false≢true all)
 
 -- what is left is shorter than a statement may be
-found_among_few : (bytes : List ℕ) (whole : Bool) (begin : ℕ) → Begins bytes begin → begin < length bytes → length (drop begin bytes) < longest_statement → Found bytes whole
+found_among_few : (bytes : List ℕ) (whole : Bool) (begin : ℕ) → Begins bytes begin → begin < length bytes → length (drop begin bytes) < STATEMENT_LIMIT → Found bytes whole
 found_among_few bytes whole begin b some few =
     let rest = drop begin bytes in
     ⊎_elim
@@ -169,14 +170,14 @@ found_among_few bytes whole begin b some few =
     (end_or_none (length rest) 0 rest (omega arith))
 
 -- as much is left as a statement may have
-found_among_many : (bytes : List ℕ) (whole : Bool) (begin : ℕ) → Begins bytes begin → longest_statement ≤ length (drop begin bytes) → Found bytes whole
+found_among_many : (bytes : List ℕ) (whole : Bool) (begin : ℕ) → Begins bytes begin → STATEMENT_LIMIT ≤ length (drop begin bytes) → Found bytes whole
 found_among_many bytes whole begin b many =
-    let front = take longest_statement (drop begin bytes) in
-    let front_len : length front ≡ longest_statement = length-take-le longest_statement (drop begin bytes) many in
+    let front = take STATEMENT_LIMIT (drop begin bytes) in
+    let front_len : length front ≡ STATEMENT_LIMIT = length-take-le STATEMENT_LIMIT (drop begin bytes) many in
     ⊎_elim
     (λ (e : (size : ℕ) × EndsFrom 0 front size).
     let ends = to_Ends e.1 in
-    let found = finds_statement bytes begin longest_statement e.0 b (omega arith) ends (omega (arith, ends.within, front_len)) in
+    let found = finds_statement bytes begin STATEMENT_LIMIT e.0 b (omega arith) ends (omega (arith, ends.within, front_len)) in
     (Statement begin (begin + e.0), found, λ all is. cc))
     (λ (none : (size : ℕ) → ¬ EndsFrom 0 front size).
     (TooLong begin, is_too_long bytes begin b many (λ size ends. none size (from_Ends ends)), λ all is. cc))
@@ -185,7 +186,7 @@ found_among_many bytes whole begin b many =
 -- a statement begins
 found_inside : (bytes : List ℕ) (whole : Bool) (begin : ℕ) → Begins bytes begin → begin < length bytes → Found bytes whole
 found_inside bytes whole begin b some =
-    ⊎_elim (found_among_few bytes whole begin b some) (found_among_many bytes whole begin b) (cases_lt (length (drop begin bytes)) longest_statement)
+    ⊎_elim (found_among_few bytes whole begin b some) (found_among_many bytes whole begin b) (cases_lt (length (drop begin bytes)) STATEMENT_LIMIT)
 
 -- any bytes have an outcome
 pub outcome_found : (bytes : List ℕ) (whole : Bool) → Found bytes whole
@@ -244,19 +245,19 @@ too_long-append bytes more begin t =
 
 module _ (bytes rest window : List ℕ) (begin most : ℕ) (b : Begins bytes begin) (behind : rest ≡ drop begin bytes) (front : window ≡ take most rest) where
   -- an end in the window is that of the statement
-  pub statement_in_window : (size : ℕ) → most ≤ longest_statement → Ends window size → StandsAt bytes begin (begin + size)
+  pub statement_in_window : (size : ℕ) → most ≤ STATEMENT_LIMIT → Ends window size → StandsAt bytes begin (begin + size)
   statement_in_window size small e =
       let same : window ≡ take most (drop begin bytes) = front ∙ ap (take most) behind in
       let w = e.within in
       finds_statement bytes begin most size b small (subst (λ bs. Ends bs size) same e) (omega (arith, w, ap length front, length-take most rest))
 
   -- a full window without end is a statement that is too long
-  pub too_long_in_window : most ≤ longest_statement → length window ≡ longest_statement → ((size : ℕ) → ¬ Ends window size) → IsTooLong bytes begin
+  pub too_long_in_window : most ≤ STATEMENT_LIMIT → length window ≡ STATEMENT_LIMIT → ((size : ℕ) → ¬ Ends window size) → IsTooLong bytes begin
   too_long_in_window small filled none =
       let len = length-take most rest in
-      let at_most : most ≡ longest_statement = omega (arith, ap length front, len, filled) in
-      let there : longest_statement ≤ length (drop begin bytes) = omega (arith, ap length front, len, filled, ap length behind) in
-      let same : window ≡ take longest_statement (drop begin bytes) = front ∙ ap (take most) behind ∙ ap (λ n. take n (drop begin bytes)) at_most in
+      let at_most : most ≡ STATEMENT_LIMIT = omega (arith, ap length front, len, filled) in
+      let there : STATEMENT_LIMIT ≤ length (drop begin bytes) = omega (arith, ap length front, len, filled, ap length behind) in
+      let same : window ≡ take STATEMENT_LIMIT (drop begin bytes) = front ∙ ap (take most) behind ∙ ap (λ n. take n (drop begin bytes)) at_most in
       is_too_long bytes begin b there (λ size e. none size (subst (λ bs. Ends bs size) (sym same) e))
 
   -- a window that is not full shows all

@@ -4,7 +4,9 @@ use Rattle.std.specs.List.{concat, list_all}
 use Rattle.std.specs.Str.{bytes_eq}
 use Rattle.sg_cut.specs.declared.outcome.Piece.{Piece}
 use Rattle.sg_cut.specs.declared.outcome.Piece.TheVariants.{Statement, TooLong, Unfinished, End, Waiting}
-use Rattle.sg_cut.specs.Lexemes.{AreLexemes, is_blank}
+use Rattle.sg_cut.specs.declared.limits.TheConstants.{STATEMENT_LIMIT}
+use Rattle.sg_cut.specs.Bytes.{is_blank}
+use Rattle.sg_cut.specs.Lexemes.{AreLexemes}
 
 -- the block depth behind a lexeme: `if` and `for` raise it, `fi` and `od` lower it where it is above 0
 abbrev pub depth_after : ℕ → List ℕ → ℕ
@@ -48,30 +50,26 @@ pub record Begins (bytes : List ℕ) (begin : ℕ) : Type 0 where
   pub skipped : AreIgnored (take begin bytes) (drop begin bytes)
   pub stops : starts_ignored (drop begin bytes) ≡ false
 
--- the most bytes that a statement may have
-abbrev pub longest_statement : ℕ
-longest_statement = 65536
-
 -- the first statement stands from `begin` up to `end`
 pub record StandsAt (bytes : List ℕ) (begin end : ℕ) : Type 0 where
   pub begins : Begins bytes begin
   pub some : begin < end
   pub within : end ≤ length bytes
   pub ends : Ends (drop begin bytes) (end - begin)
-  pub short : end ≤ begin + longest_statement
+  pub short : end ≤ begin + STATEMENT_LIMIT
 
 -- from `begin` the longest that a statement may be is there, and none of these bytes ends it
 pub record IsTooLong (bytes : List ℕ) (begin : ℕ) : Type 0 where
   pub begins : Begins bytes begin
-  pub filled : begin + longest_statement ≤ length bytes
-  pub no_end : (size : ℕ) → size ≤ longest_statement → ¬ Ends (drop begin bytes) size
+  pub filled : begin + STATEMENT_LIMIT ≤ length bytes
+  pub no_end : (size : ℕ) → size ≤ STATEMENT_LIMIT → ¬ Ends (drop begin bytes) size
 
 -- these are all the bytes, and fewer than a statement may have are left of one without end
 pub record IsUnfinished (bytes : List ℕ) (whole : Bool) (begin : ℕ) : Type 0 where
   pub complete : IsTrue whole
   pub begins : Begins bytes begin
   pub some : begin < length bytes
-  pub few : length bytes < begin + longest_statement
+  pub few : length bytes < begin + STATEMENT_LIMIT
   pub no_end : (size : ℕ) → ¬ Ends (drop begin bytes) size
 
 -- these are all the bytes, and they are blanks and comments

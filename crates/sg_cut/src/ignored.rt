@@ -3,7 +3,8 @@
 ghost use Rattle.std.specs.Prelude.{◌≡◌, ◌||◌, ◌==◌};
 ghost use Rattle.sg_cut.specs.Cut.{Begins, starts_ignored};
 
-use crate::lexeme::{is_blank, lexeme_len};
+use crate::bytes::is_blank;
+use crate::lexeme::lexeme_len;
 
 /// Whether the first byte is a blank or begins a comment.
 fn starts_ignored(bytes: &[u8]) -> bool

@@ -1,6 +1,7 @@
 //! Laws of what stands first in some bytes: each is the contract of a function without parameters.
 
 ghost use Rattle.std.specs.Prelude.{◌≡◌, ℕ, ◌+◌, ◌<◌, ◌≤◌, Bool, true, false, List, ◌++◌, length, take, drop, slice_range};
+ghost use Rattle.sg_cut.specs.declared.limits.TheConstants.{STATEMENT_LIMIT};
 ghost use Rattle.sg_cut.specs.declared.outcome.Piece.{Piece};
 ghost use Rattle.sg_cut.specs.Cut.{Begins, Cut};
 ghost use Rattle.sg_cut.specs.Lines.{count_of_line_feeds, line_of};
@@ -21,11 +22,11 @@ pub fn settled()
     ensures too_long { (bytes more : List ℕ) (whole later : Bool) (begin : ℕ) → Cut bytes whole (Piece.TooLong begin) → Cut (bytes ++ more) later (Piece.TooLong begin) }
 {}
 
-/// A statement has at least one byte and at most 65,536, and lies inside the bytes; so does the front of one that is
-/// too long; of one without end there is at least one byte.
+/// A statement has at least one byte and at most as many as its limit, and lies inside the bytes; so does the front of
+/// one that is too long; of one without end there is at least one byte.
 pub fn bounds()
-    ensures statement { (bytes : List ℕ) (whole : Bool) (begin end : ℕ) → Cut bytes whole (Piece.Statement begin end) → (begin < end) × (end ≤ length bytes) × (end ≤ begin + 65536) }
-    ensures too_long { (bytes : List ℕ) (whole : Bool) (begin : ℕ) → Cut bytes whole (Piece.TooLong begin) → begin + 65536 ≤ length bytes }
+    ensures statement { (bytes : List ℕ) (whole : Bool) (begin end : ℕ) → Cut bytes whole (Piece.Statement begin end) → (begin < end) × (end ≤ length bytes) × (end ≤ begin + STATEMENT_LIMIT) }
+    ensures too_long { (bytes : List ℕ) (whole : Bool) (begin : ℕ) → Cut bytes whole (Piece.TooLong begin) → begin + STATEMENT_LIMIT ≤ length bytes }
     ensures unfinished { (bytes : List ℕ) (whole : Bool) (begin : ℕ) → Cut bytes whole (Piece.Unfinished begin) → begin < length bytes }
 {}
 

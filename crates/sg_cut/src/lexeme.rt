@@ -1,36 +1,9 @@
 //! The first lexeme of some bytes: a comment, a string, a word or a single byte.
 
 ghost use Rattle.std.specs.Prelude.{◌≡◌, ◌<◌, ◌≤◌, length, take, drop};
-ghost use Rattle.std.specs.List.{prefix_len};
-ghost use Rattle.sg_cut.specs.Lexemes.{IsLexeme, IsQuoted, is_blank, is_inline, is_word_byte};
+ghost use Rattle.sg_cut.specs.Lexemes.{IsLexeme, IsQuoted};
 
-/// Whether a byte is a space, a tab, a carriage return or a line feed.
-pub fn is_blank(byte: u8) -> bool
-    ensures { result ≡ is_blank byte }
-{
-    byte == b' ' || byte == b'\t' || byte == b'\r' || byte == b'\n'
-}
-
-/// Whether a byte may stand in a word.
-fn is_word_byte(byte: u8) -> bool
-    ensures { result ≡ is_word_byte byte }
-{
-    byte.is_ascii_alphanumeric() || byte == b'_'
-}
-
-/// How many bytes stand before the first line feed.
-fn line_len(bytes: &[u8]) -> usize
-    ensures { result ≡ prefix_len is_inline bytes.now }
-{
-    bytes.iter().take_while(|byte| **byte != b'\n').count()
-}
-
-/// How many letters, digits and `_` stand in front.
-fn word_len(bytes: &[u8]) -> usize
-    ensures { result ≡ prefix_len is_word_byte bytes.now }
-{
-    bytes.iter().take_while(|byte| is_word_byte(**byte)).count()
-}
+use crate::bytes::{is_word_byte, line_len, word_len};
 
 /// How many bytes belong to a string, behind its opening `"`.
 fn quoted_len(bytes: &[u8]) -> usize

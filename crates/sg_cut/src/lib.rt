@@ -7,14 +7,18 @@
 //! found, or found too long, stays so whatever follows. The next statement is the first of the bytes behind this one.
 #![tactic(auto)]
 
+mod bytes;
 mod ignored;
 pub mod laws;
 mod lexeme;
+mod limits;
 mod lines;
 mod outcome;
 mod statement;
 #[cfg(test)]
 mod tests;
 
+pub use bytes::{is_blank, is_word_byte, line_len, word_len};
+pub use limits::{SCRIPT_LIMIT, STATEMENT_LIMIT};
 pub use lines::line_feeds;
 pub use outcome::{Piece, cut};

@@ -1,5 +1,5 @@
 -- What tokens begin with is decided: a given token, a name before one, an operator, a comparison, and so many signs.
-use Rattle.std.proofs.Common.{◌≡◌, ℕ, zero, suc, ◌+◌, ◌<◌, ◌≤◌, List, [], ◌∷◌, length, Option, None, Some, refl, sym, ap, ◌∙◌, inl, inr, arith}
+use Rattle.std.proofs.Common.{◌≡◌, ℕ, zero, suc, ◌+◌, ◌<◌, ◌≤◌, List, [], ◌∷◌, length, Option, None, Some, refl, ap, ◌∙◌, inl, inr, arith}
 use Rattle.std.specs.Prelude.{◌⊎◌}
 use Rattle.std.proofs.lemmas.Bool.{cases_eq}
 use denote.Enum.Bare.{tag_one}
@@ -14,7 +14,6 @@ use Rattle.sg_tree.specs.declared.expr.Op.{Op}
 use Rattle.sg_tree.specs.declared.expr.Rel.{Rel}
 use Rattle.sg_script.specs.declared.rank.Rank.{Rank}
 use Rattle.sg_script.specs.contracts.rank.Rank.{the_type as the_rank}
-use Rattle.sg_script.specs.Grammar.{times}
 use Rattle.sg_script.specs.Reading.{Operates, OperatesNot, Compares, ComparesNot, NamesNot, Counts}
 use Rattle.sg_script.specs.Signs.{op_of, rank_of, relation_of}
 

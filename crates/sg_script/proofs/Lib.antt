@@ -13,7 +13,6 @@ pub mod UniqueStatementLemmas
 pub mod WellFormedLemmas
 pub mod OutcomeLemmas
 pub mod ReaderLemmas
-pub mod SomeTokens
 pub mod Fronts
 pub mod SomeExpressions
 pub mod SomeStatements

@@ -5,14 +5,12 @@ use Rattle.sg_token.specs.declared.token.Token.{Token}
 use Rattle.sg_token.specs.declared.token.Token.TheVariants as token
 use Rattle.sg_token.specs.declared.word.Word.TheVariants as word
 use Rattle.sg_token.specs.declared.symbol.Symbol.TheVariants as symbol
-use Rattle.sg_tree.specs.declared.expr.Op.{Op}
-use Rattle.sg_tree.specs.declared.expr.Rel.{Rel}
-use Rattle.sg_tree.specs.Tree.{Tree, number, quoted, truth, failing, variable, call, display, span, compare, no_trees, trees, Argument, plain, arrow, arguments}
+use Rattle.sg_tree.specs.Tree.{Tree, number, quoted, variable, call, display, span, compare, no_trees, trees, Argument, plain, arrow, arguments}
 use Rattle.sg_script.specs.declared.rank.Rank.{Rank}
 use Rattle.sg_script.specs.declared.rank.Rank.TheVariants as rank
 use Rattle.sg_script.specs.Grammar.{joined, negated, signed, indexed, Chain, Linked, Operand, Comparison, Item, Indices, Atom, Entries, Given, MoreGiven, OneGiven}
 use Rattle.sg_script.specs.Literals.{literal_of}
-use Rattle.sg_script.specs.Reading.{Found, Nothing, Onward, NamesNot, Closed, Always, Named, Bracketed, Listed, EndsGiven}
+use Rattle.sg_script.specs.Reading.{Found, Nothing, Onward, NamesNot, Closed, Always, Named, Bracketed, EndsGiven}
 use Rattle.sg_script.specs.Signs.{level, binding, StopsAt}
 use Rattle.sg_script.proofs.Fronts.{Front, symbol-front, word-front, name-front, operator-front, comparison-front, signs-front}
 use Rattle.sg_script.proofs.OnwardLemmas.{onward-found, onward-nothing}

@@ -5,10 +5,10 @@ use Rattle.sg_token.specs.declared.token.Token.{Token}
 use Rattle.sg_token.specs.declared.token.Token.TheVariants as token
 use Rattle.sg_token.specs.declared.word.Word.TheVariants as word
 use Rattle.sg_token.specs.declared.symbol.Symbol.TheVariants as symbol
-use Rattle.sg_tree.specs.Tree.{Tree, Code, nothing, quit, assign, choose, each, perform, Block, block, arms}
+use Rattle.sg_tree.specs.Tree.{Tree, Code, nothing, quit, assign, choose, each, perform, block, arms}
 use Rattle.sg_script.specs.Bodies.{ends_body, EndsBody, EndsChoice, Choice, Repetition}
 use Rattle.sg_script.specs.Grammar.{Arm, Elifs, Otherwise, Body, OneOf, IsStatement, the_last, a_statement}
-use Rattle.sg_script.specs.Reading.{Found, Nothing, Closed, Always}
+use Rattle.sg_script.specs.Reading.{Found, Closed, Always}
 use Rattle.sg_script.specs.Signs.{binding}
 use Rattle.sg_script.proofs.Fronts.{Front, symbol-front, word-front, name-front}
 use Rattle.sg_script.proofs.SomeExpressions.{Strictly, Loosely, behind, behind-two, then-loosely, closed-read, expression-read}

@@ -6,6 +6,7 @@ use Rattle.sg_token.specs.declared.word.Word.{Word}
 use Rattle.sg_token.specs.declared.word.Word.TheVariants as word
 use Rattle.sg_token.specs.declared.symbol.Symbol.{Symbol}
 use Rattle.sg_token.specs.declared.symbol.Symbol.TheVariants as symbol
+use Rattle.sg_script.specs.declared.limits.TheConstants.{NESTING_LIMIT}
 
 abbrev pub word_deepens : Word → Bool
 word_deepens word.If = true
@@ -43,6 +44,10 @@ rises (token.Word w) = word_rises w
 rises (token.Text bytes) = false
 rises (token.Symbol s) = symbol_rises s
 
--- some front of the tokens opens more than 64 brackets and blocks beyond those that it closes
+-- the first tokens open more brackets and blocks, beyond those that they close, than may be open
+abbrev pub IsDeepAt : List Token → ℕ → Type 0
+IsDeepAt tokens n = count_by rises (take n tokens) + NESTING_LIMIT < count_by deepens (take n tokens)
+
+-- some front of the tokens does
 abbrev pub IsDeep : List Token → Type 0
-IsDeep tokens = (n : ℕ) × (count_by rises (take n tokens) + 64 < count_by deepens (take n tokens))
+IsDeep tokens = (n : ℕ) × IsDeepAt tokens n

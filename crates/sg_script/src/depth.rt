@@ -3,10 +3,8 @@
 ghost use Rattle.std.specs.Prelude.{◌≡◌, ◌↔◌, IsTrue};
 ghost use Rattle.sg_script.specs.Depth.{deepens, rises, IsDeep};
 
+use crate::limits::NESTING_LIMIT;
 use sg_token::{Symbol, Token, Word};
-
-/// How many brackets and blocks may be open at once.
-const MOST_OPEN: u64 = 64;
 
 /// Whether a token opens a bracket or begins a block.
 fn is_deepening(token: &Token) -> bool
@@ -30,7 +28,7 @@ fn is_rising(token: &Token) -> bool
     }
 }
 
-/// Whether at some token more than 64 brackets and blocks are open.
+/// Whether at some token more brackets and blocks are open than may be.
 pub fn is_too_deep(tokens: &[Token]) -> bool
     ensures { IsTrue result ↔ IsDeep tokens.now }
 {
@@ -43,7 +41,7 @@ pub fn is_too_deep(tokens: &[Token]) -> bool
         if is_rising(token) {
             closed += 1;
         }
-        if opened.saturating_sub(closed) > MOST_OPEN {
+        if opened.saturating_sub(closed) > NESTING_LIMIT {
             return true;
         }
     }

@@ -2,14 +2,19 @@
 
 use sg_token::TokenFault;
 use std::alloc::AllocError;
+use thiserror::Error;
 
 /// Why a text gives no tree.
-#[derive(Clone, Copy, Debug, PartialEq, Eq)]
+#[derive(Clone, Copy, Debug, PartialEq, Eq, Error)]
 pub enum ParseFault {
     /// The text does not fall into tokens, or its tokens are no statement.
+    #[error("the text is no statement")]
     Syntax,
-    /// More than 64 brackets and blocks are open at some token.
+    /// More brackets and blocks are open at some token than may be.
+    #[error("brackets and blocks nest too deeply")]
     Depth,
+    /// Memory was wanting.
+    #[error(transparent)]
     Memory(AllocError),
 }
 

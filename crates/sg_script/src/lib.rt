@@ -10,6 +10,7 @@ mod depth;
 mod expression;
 mod fault;
 pub mod laws;
+mod limits;
 mod rank;
 mod reader;
 mod sign;
@@ -18,6 +19,6 @@ mod statement;
 mod tests;
 
 pub use fault::ParseFault;
+pub use limits::NESTING_LIMIT;
 pub use reader::parse;
-pub use sg_cut::{Piece, cut};
 pub use sg_tree::{Arg, Args, Arms, Block, Expr, Exprs, Links, Op, Rel, Stmt};

@@ -48,8 +48,8 @@ fn outcome_of(alloc: Global, text: &[u8]) -> Result<Stmt, ParseFault>
 
 /// The tree of the text of a statement.
 ///
-/// `Syntax` where the text falls into no tokens; else `Depth` where at some token more than 64 brackets and blocks are
-/// open; else `Syntax` where the tokens are no statement; `Memory` where memory is wanting.
+/// `Syntax` where the text falls into no tokens; else `Depth` where at some token more brackets and blocks are open than
+/// `NESTING_LIMIT`; else `Syntax` where the tokens are no statement; `Memory` where memory is wanting.
 pub fn parse(alloc: Global, text: &[u8]) -> Result<Stmt, ParseFault>
     // What is answered holds.
     ensures reads { Tells result (λ o. IsReadAs text.now o) }

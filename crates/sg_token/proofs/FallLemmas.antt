@@ -1,6 +1,6 @@
 -- What a text falls into, by what its first byte begins.
 use Rattle.std.proofs.Common.{◌≡◌, ℕ, List, [], ◌∷◌, Some, drop, length, refl, sym, ap, ◌∙◌, subst}
-use Rattle.sg_token.specs.Bytes.{beginning_at}
+use Rattle.sg_token.specs.FirstByte.{beginning_at}
 use Rattle.sg_token.specs.Runs.{run_of, after_run, token_of_run}
 use Rattle.sg_token.specs.Strings.{string_at}
 use Rattle.sg_token.specs.Symbols.{spelling_of_symbol, symbol_before}
@@ -10,6 +10,7 @@ use Rattle.sg_token.specs.declared.symbol.Symbol.{Symbol}
 use Rattle.sg_token.specs.declared.token.Token.{Token}
 use Rattle.sg_token.specs.declared.token.Token.TheVariants as token
 
+-- what is there is the same
 pub pair-of-some : {A : Type 0} {x y : A} → Some x ≡ Some y → x ≡ y
 pair-of-some e = cc
 

@@ -1,3 +1,5 @@
 pub mod NumberLemmas
 pub mod FallLemmas
+pub mod SymbolLemmas
 pub mod StepLemmas
+pub mod SomeTokens

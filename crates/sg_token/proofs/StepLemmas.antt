@@ -1,8 +1,9 @@
 -- What is taken off the front of a text.
 use Rattle.std.proofs.Common.{◌≡◌, ℕ, ◌+◌, ◌≤◌, List, ◌∷◌, Option, None, Some, drop, length, length-drop, refl, sym, ap, ◌∙◌, subst, arith, cond, Bool, true, false}
-use Rattle.std.specs.Prelude.{option_map, ◌==◌, not}
+use Rattle.std.specs.Prelude.{option_map, ◌==◌}
 use Rattle.std.specs.List.{prefix_len}
-use Rattle.sg_token.specs.Bytes.{beginning_at, is_blank, is_word_byte}
+use Rattle.sg_cut.specs.Bytes.{is_blank, is_inline, is_word_byte}
+use Rattle.sg_token.specs.FirstByte.{beginning_at}
 use Rattle.sg_token.specs.Runs.{run_of, after_run, token_of_run, run_at}
 use Rattle.sg_token.specs.Strings.{string_at}
 use Rattle.sg_token.specs.Symbols.{spelling_of_symbol, symbol_before}
@@ -10,9 +11,9 @@ use Rattle.sg_token.specs.Tokens.{FallsInto, blank, comment, run, string, symbol
 use Rattle.sg_token.specs.Steps.{IsFirst}
 use Rattle.sg_token.specs.declared.beginning.Beginning.TheVariants as begins
 use Rattle.sg_token.specs.declared.symbol.Symbol.{Symbol}
-use Rattle.sg_token.specs.declared.symbol.Symbol.TheVariants as symbols
 use Rattle.sg_token.specs.declared.token.Token.{Token}
 use Rattle.sg_token.specs.declared.token.Token.TheVariants as token
+use Rattle.sg_token.proofs.SymbolLemmas.{spelling-some}
 use Rattle.sg_token.proofs.FallLemmas.{falls-blank, falls-comment, falls-run, falls-string, falls-symbol, pair-of-some}
 
 -- a function of what may be there gave this
@@ -33,27 +34,7 @@ pub run-begins : (b : ℕ) → beginning_at b ≡ begins.Run → is_word_byte b 
 unfolding beginning_at
 run-begins b e = chosen-run (is_blank b) (b == 35) (is_word_byte b) (b == 34) e
 
--- each symbol has a byte
-pub spelling-some : (s : Symbol) → 1 ≤ length (spelling_of_symbol s)
-spelling-some symbols.Assign = omega arith
-spelling-some symbols.Dots = omega arith
-spelling-some symbols.Arrow = omega arith
-spelling-some symbols.Unequal = omega arith
-spelling-some symbols.AtMost = omega arith
-spelling-some symbols.AtLeast = omega arith
-spelling-some symbols.Semicolon = omega arith
-spelling-some symbols.Comma = omega arith
-spelling-some symbols.OpenParenthesis = omega arith
-spelling-some symbols.CloseParenthesis = omega arith
-spelling-some symbols.OpenBracket = omega arith
-spelling-some symbols.CloseBracket = omega arith
-spelling-some symbols.Plus = omega arith
-spelling-some symbols.Minus = omega arith
-spelling-some symbols.Times = omega arith
-spelling-some symbols.Equal = omega arith
-spelling-some symbols.Below = omega arith
-spelling-some symbols.Above = omega arith
-
+-- a blank in front
 pub first-blank : (b : ℕ) (text : List ℕ) → beginning_at b ≡ begins.Blank → IsFirst (b ∷ text) None text
 first-blank b text is = record {
   joins = λ ts d. blank is d;
@@ -61,13 +42,15 @@ first-blank b text is = record {
   shorter = omega arith;
 }
 
+-- a comment in front
 pub first-comment : (b : ℕ) (text : List ℕ) → beginning_at b ≡ begins.Comment → IsFirst (b ∷ text) None (after_line text)
 first-comment b text is = record {
   joins = λ ts d. comment is d;
   only = λ ts d. (ts, refl, falls-comment is d);
-  shorter = omega (arith, length-drop (prefix_len (λ x. not (x == 10)) text) text);
+  shorter = omega (arith, length-drop (prefix_len is_inline text) text);
 }
 
+-- a run in front that is a token
 pub first-run : (b : ℕ) (text : List ℕ) (t : Token) (rest : List ℕ) → beginning_at b ≡ begins.Run → run_at b (b ∷ text) ≡ Some (t, rest) → IsFirst (b ∷ text) (Some t) rest
 first-run b text t rest is made =
     let found = some-of-map (λ x. (x, after_run (b ∷ text))) (token_of_run b (run_of (b ∷ text))) (t, rest) made in
@@ -81,12 +64,14 @@ first-run b text t rest is made =
       shorter = omega (arith, long, length-drop (prefix_len is_word_byte (b ∷ text)) (b ∷ text));
     })
 
+-- a run in front that is none
 pub torn-run : (b : ℕ) (text : List ℕ) → beginning_at b ≡ begins.Run → run_at b (b ∷ text) ≡ None → (ts : List Token) → FallsInto (b ∷ text) ts → ⊥
 torn-run b text is none ts d =
     let f = falls-run is d in
     let made = sym (ap (option_map (λ x. (x, after_run (b ∷ text)))) f.2) ∙ none in
     cc
 
+-- a string in front
 pub first-string : (b : ℕ) (text bytes rest : List ℕ) → beginning_at b ≡ begins.Quote → string_at text ≡ Some (bytes, rest) → length rest ≤ length text → IsFirst (b ∷ text) (Some (token.Text bytes)) rest
 first-string b text bytes rest is made shorter = record {
   joins = λ ts d. string is made d;
@@ -97,12 +82,14 @@ first-string b text bytes rest is made shorter = record {
   shorter = omega arith;
 }
 
+-- a string in front that does not end
 pub torn-string : (b : ℕ) (text : List ℕ) → beginning_at b ≡ begins.Quote → string_at text ≡ None → (ts : List Token) → FallsInto (b ∷ text) ts → ⊥
 torn-string b text is none ts d =
     let f = falls-string is d in
     let made = sym f.3 ∙ none in
     cc
 
+-- a symbol in front
 pub first-symbol : (b : ℕ) (text : List ℕ) (s : Symbol) → beginning_at b ≡ begins.Symbol → symbol_before (b ∷ text) ≡ Some s → IsFirst (b ∷ text) (Some (token.Symbol s)) (drop (length (spelling_of_symbol s)) (b ∷ text))
 first-symbol b text s is made = record {
   joins = λ ts d. symbol is made d;
@@ -113,6 +100,7 @@ first-symbol b text s is made = record {
   shorter = omega (arith, spelling-some s, length-drop (length (spelling_of_symbol s)) (b ∷ text));
 }
 
+-- no symbol in front, nor anything else
 pub torn-symbol : (b : ℕ) (text : List ℕ) → beginning_at b ≡ begins.Symbol → symbol_before (b ∷ text) ≡ None → (ts : List Token) → FallsInto (b ∷ text) ts → ⊥
 torn-symbol b text is none ts d =
     let f = falls-symbol is d in

@@ -1,5 +1,5 @@
-pub mod Bytes
-pub mod Words
+pub mod FirstByte
+pub mod ReservedWords
 pub mod Symbols
 pub mod Runs
 pub mod Splits

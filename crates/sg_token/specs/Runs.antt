@@ -2,8 +2,8 @@
 use Rattle.std.specs.Prelude.{ℕ, ◌+◌, ◌*◌, ◌-◌, ◌^◌, ℤ, pos, ◌&&◌, List, drop, take_while, fold, Option, None, Some, option_map, nat_lt, if◌then◌else◌}
 use Rattle.std.specs.List.{list_all, prefix_len}
 use Rattle.std.specs.Char.{is_ascii_digit}
-use Rattle.sg_token.specs.Bytes.{is_word_byte}
-use Rattle.sg_token.specs.Words.{reserved}
+use Rattle.sg_cut.specs.Bytes.{is_word_byte}
+use Rattle.sg_token.specs.ReservedWords.{reserved}
 use Rattle.sg_token.specs.declared.token.Token.{Token}
 use Rattle.sg_token.specs.declared.token.Token.TheVariants as token
 use Rattle.sg_token.specs.declared.token.Token.TheVariants.{Number, Name}

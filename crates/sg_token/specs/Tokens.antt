@@ -1,7 +1,8 @@
 -- The tokens of a text.
-use Rattle.std.specs.Prelude.{◌≡◌, ℕ, List, [], ◌∷◌, Some, drop, length, ◌==◌, not}
+use Rattle.std.specs.Prelude.{◌≡◌, ℕ, List, [], ◌∷◌, Some, drop, length}
 use Rattle.std.specs.List.{prefix_len}
-use Rattle.sg_token.specs.Bytes.{beginning_at}
+use Rattle.sg_cut.specs.Bytes.{is_inline}
+use Rattle.sg_token.specs.FirstByte.{beginning_at}
 use Rattle.sg_token.specs.Runs.{run_of, after_run, token_of_run}
 use Rattle.sg_token.specs.Strings.{string_at}
 use Rattle.sg_token.specs.Symbols.{spelling_of_symbol, symbol_before}
@@ -12,7 +13,7 @@ use Rattle.sg_token.specs.declared.token.Token.TheVariants as token
 
 -- the text from its first line feed on
 abbrev pub after_line : List ℕ → List ℕ
-after_line text = drop (prefix_len (λ b. not (b == 10)) text) text
+after_line text = drop (prefix_len is_inline text) text
 
 -- the text falls into these tokens, blanks and comments, each run and each symbol as long as it can be
 pub data FallsInto : List ℕ → List Token → Type 0 where

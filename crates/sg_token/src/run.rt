@@ -1,25 +1,14 @@
 //! Runs of letters, digits and `_`.
 
-ghost use Rattle.std.specs.Prelude.{◌≡◌, ◌≤◌, length};
-ghost use Rattle.std.specs.List.{prefix_len};
-ghost use Rattle.sg_token.specs.Bytes.{is_word_byte};
+ghost use Rattle.std.specs.Prelude.{◌≡◌};
 ghost use Rattle.sg_token.specs.Runs.{token_of_run};
 ghost use Rattle.sg_token.specs.Splits.{IsAnswer};
 
-use crate::beginning::is_in_word;
 use crate::number::number;
 use crate::token::{Token, TokenFault};
 use crate::word::word_spelled;
 use sg_nat::Bytes;
 use std::alloc::Global;
-
-/// How long the run is that the text begins with.
-pub fn run_length(text: &[u8]) -> usize
-    ensures run { result ≡ prefix_len is_word_byte text.now }
-    ensures within { result ≤ length text.now }
-{
-    text.iter().take_while(|byte| is_in_word(**byte)).count()
-}
 
 /// The token that a run is.
 #[tactic(auto, unfolding(crate::specs::Runs::token_of_run))]

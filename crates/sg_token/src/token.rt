@@ -4,6 +4,7 @@ use crate::symbol::Symbol;
 use crate::word::Word;
 use sg_nat::Bytes;
 use std::alloc::{AllocError, AllocFailed};
+use thiserror::Error;
 
 /// A token.
 #[derive(Drop)]
@@ -19,10 +20,13 @@ pub enum Token {
 }
 
 /// Why a text gives no tokens.
-#[derive(Clone, Copy, Debug, PartialEq, Eq)]
+#[derive(Clone, Copy, Debug, PartialEq, Eq, Error)]
 pub enum TokenFault {
     /// The text does not fall into tokens, blanks and comments.
+    #[error("the text does not fall into tokens")]
     Syntax,
+    /// Memory was wanting.
+    #[error(transparent)]
     Memory(AllocError),
 }
 

@@ -1,7 +1,6 @@
 //! The tokens of a text.
 
-ghost use Rattle.std.specs.Prelude.{◌≡◌, ◌≤◌, ◌∷◌, ◌==◌, List, length, not, IfOk, IsErrOf};
-ghost use Rattle.std.specs.List.{prefix_len};
+ghost use Rattle.std.specs.Prelude.{◌≡◌, ◌∷◌, List, IfOk, IsErrOf};
 ghost use Rattle.sg_token.specs.Runs.{run_at};
 ghost use Rattle.sg_token.specs.Splits.{IsSplit};
 ghost use Rattle.sg_token.specs.Steps.{Takes};
@@ -10,31 +9,24 @@ ghost use Rattle.sg_token.specs.Tokens.{FallsInto, after_line};
 
 use crate::beginning::{Beginning, begun_by};
 use crate::quoted::take_string;
-use crate::run::{run_length, token_of};
+use crate::run::token_of;
 use crate::symbol::longest_symbol;
 use crate::token::{Token, TokenFault};
+use sg_cut::{line_len, word_len};
 use std::alloc::Global;
-
-/// How many bytes stand before the first line feed.
-fn line_length(text: &[u8]) -> usize
-    ensures line { result ≡ prefix_len (λ b. not (b == 10)) text.now }
-    ensures within { result ≤ length text.now }
-{
-    text.iter().take_while(|byte| **byte != b'\n').count()
-}
 
 /// The text from its first line feed on.
 fn after_comment(text: &[u8]) -> &[u8]
     ensures { result.now ≡ after_line text.now }
 {
-    text.split_at(line_length(text)).1
+    text.split_at(line_len(text)).1
 }
 
 /// Takes the run that the text begins with.
 fn take_run(alloc: Global, first: u8, text: &[u8]) -> Result<(Token, &[u8]), TokenFault>
     ensures { IsSplit result (run_at first text.now) }
 {
-    let (run, rest) = text.split_at(run_length(text));
+    let (run, rest) = text.split_at(word_len(text));
     Ok((token_of(alloc, first, run)?, rest))
 }
 

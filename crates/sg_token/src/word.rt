@@ -1,7 +1,7 @@
 //! Reserved words.
 
 ghost use Rattle.std.specs.Prelude.{◌≡◌, find, bytes_eq};
-ghost use Rattle.sg_token.specs.Words.{spelling_of_word, reserved};
+ghost use Rattle.sg_token.specs.ReservedWords.{spelling_of_word, reserved};
 
 /// A reserved word.
 #[derive(Clone, Copy, PartialEq, Eq, Debug)]

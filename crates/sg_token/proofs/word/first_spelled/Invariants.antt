@@ -1,7 +1,7 @@
 use Rattle.std.proofs.Common.{◌≡◌, drop}
 use Rattle.std.specs.List.{find}
 use Rattle.std.specs.Str.{bytes_eq}
-use Rattle.sg_token.specs.Words.{spelling_of_word}
+use Rattle.sg_token.specs.ReservedWords.{spelling_of_word}
 use Rattle.sg_token.proofs.word.first_spelled.Given as goal
 
 -- the word is found among those that are left

@@ -1,4 +1,4 @@
-use Rattle.sg_token.specs.Words.{reserved}
+use Rattle.sg_token.specs.ReservedWords.{reserved}
 use Rattle.sg_token.proofs.word.word_spelled.Goals as goal
 
 pub returns : goal.returns

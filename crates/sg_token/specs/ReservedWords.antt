@@ -33,6 +33,7 @@ spelling_of_word word.Return = codes "return"
 spelling_of_word word.Until = codes "until"
 spelling_of_word word.While = codes "while"
 
+-- all reserved words
 abbrev pub words : List Word
 words = word.And ∷ word.Do ∷ word.Elif ∷ word.Else ∷ word.Fail ∷ word.False ∷ word.Fi ∷ word.For ∷ word.If ∷ word.In ∷ word.Mod ∷ word.Not ∷ word.Od ∷ word.Or ∷ word.Quit ∷ word.Then ∷ word.True ∷ word.Break ∷ word.Continue ∷ word.End ∷ word.Function ∷ word.Local ∷ word.Rec ∷ word.Repeat ∷ word.Return ∷ word.Until ∷ word.While ∷ []
 

@@ -1,7 +1,7 @@
 -- A text falls into tokens, or it does not: what stands first is taken off, and what is left is shorter.
-use Rattle.std.proofs.Common.{◌≡◌, ℕ, zero, suc, ◌+◌, ◌<◌, ◌≤◌, Bool, true, false, List, [], ◌∷◌, length, drop, Option, None, Some, cond, refl, inl, inr, ap, arith}
-use Rattle.std.specs.Prelude.{◌⊎◌, ◌==◌, option_map, IfSome}
-use Rattle.sg_token.specs.Bytes.{beginning_at}
+use Rattle.std.proofs.Common.{◌≡◌, ℕ, zero, suc, ◌+◌, ◌<◌, ◌≤◌, Bool, true, false, List, [], ◌∷◌, length, drop, Option, None, Some, cond, refl, inl, inr, arith}
+use Rattle.std.specs.Prelude.{◌⊎◌, ◌==◌, IfSome}
+use Rattle.sg_token.specs.FirstByte.{beginning_at}
 use Rattle.sg_token.specs.Runs.{run_at}
 use Rattle.sg_token.specs.Steps.{IsFirst, prefixed}
 use Rattle.sg_token.specs.Strings.{string_at, escape_at, escaped, is_printable, with_byte, with_escape}
@@ -12,7 +12,6 @@ use Rattle.sg_token.specs.declared.beginning.Beginning.TheVariants as begins
 use Rattle.sg_token.specs.declared.symbol.Symbol.{Symbol}
 use Rattle.sg_token.specs.declared.token.Token.{Token}
 use Rattle.sg_token.specs.declared.token.Token.TheVariants as token
-use Rattle.sg_token.proofs.FallLemmas.{falls-end}
 use Rattle.sg_token.proofs.StepLemmas.{first-blank, first-comment, first-run, torn-run, first-string, torn-string, first-symbol, torn-symbol}
 
 -- it falls into these tokens, or into none
@@ -88,5 +87,6 @@ falls-below zero text l = absurd (omega arith)
 falls-below (suc k) [] l = inl ([], at_end)
 falls-below (suc k) (b ∷ text) l = by-beginning b text (λ rest less. falls-below k rest (omega arith)) (beginning_at b) refl
 
+-- each text falls into tokens, or into none
 pub falls-or_none : (text : List ℕ) → Falls text
 falls-or_none text = falls-below (length text + 1) text (omega arith)
