@@ -1,5 +1,5 @@
 -- Intersections and quotients by their residue classes.
-use Rattle.std.proofs.Common.{◌≡◌, ℕ, ◌+◌, ◌^◌, ◌%◌, ◌<◌, ◌≤◌, ◌↔◌, List, length, get_or, max, sym, ap, subst, ◌∙◌, inl, inr, arith}
+use Rattle.std.proofs.Common.{◌≡◌, ℕ, ◌+◌, ◌%◌, ◌<◌, ◌≤◌, ◌↔◌, List, length, get_or, max, sym, ap, subst, ◌∙◌, inl, inr, arith}
 use Rattle.std.specs.Prelude.{◌⊎◌}
 use Rattle.std.proofs.lemmas.Bool.{cases_lt}
 use Rattle.std.proofs.lemmas.Nat.{mod_below}
@@ -9,11 +9,13 @@ use Rattle.sg_defs.proofs.MembershipLemmas.{member-zero, member-add, member-entr
 use Rattle.sg_apery.specs.Classes.{AreGreaterEntries, IsAboveEntry, IsClassList, IsCommonEntry, IsKunz}
 use Rattle.sg_apery.specs.Conditions.{IsInBoth}
 use Rattle.sg_apery.specs.Fit.{IsSizeFault, IsTooLarge}
+use Rattle.sg_apery.specs.Table.{IsTable}
 use Rattle.sg_apery.specs.declared.fault.TableFault.{TableFault}
 use Rattle.sg_apery.specs.declared.fault.TableFault.TheVariants.{BadArgument, TooLarge, Memory}
 use Rattle.sg_apery.proofs.AperyLemmas.{apery-member}
 use Rattle.sg_apery.proofs.ExistsLemmas.{IsCofinite, generates-exists}
 use Rattle.sg_apery.proofs.KunzLemmas.{above-entry, residue-sum, zero-residue}
+use Rattle.sg_apery.specs.declared.limits.TheConstants.{MULTIPLICITY_LIMIT}
 
 -- a class list of a set that is closed under sums meets Kunz's conditions
 pub kunz-from_closed : (P : ℕ → Type 0) (t : List ℕ) → IsClassList t → ((n : ℕ) → P n ↔ IsAboveEntry t n) → ((a b : ℕ) → P a → P b → P (a + b)) → IsKunz t
@@ -36,6 +38,11 @@ generates-iff P Q same M g = record {
 
 pub too_large-iff : (P Q : ℕ → Type 0) → ((n : ℕ) → P n ↔ Q n) → IsTooLarge Q → IsTooLarge P
 too_large-iff P Q same h = (h.0, generates-iff P Q same h.0 h.1, h.2)
+
+-- a table of the generators of A is the Apery list of A modulo its length
+pub table-modulo : (A G s t : List ℕ) (n : ℕ) → G ≡ A → s ≡ t → length s ≡ n → IsTable G t → IsApery A n s
+table-modulo A G s t n same read long h =
+    subst (λ m. IsApery A m s) long (subst (λ u. IsApery A (length u) u) (sym read) (subst (λ X. IsApery X (length t) t) same h.apery))
 
 -- of the greater entries of two Apery lists
 module _ (A B s t list : List ℕ) (n : ℕ) (positive : 0 < n) (in_a : IsMember A n) (in_b : IsMember B n) (first : IsApery A n s) (second : IsApery B n t)
@@ -129,8 +136,8 @@ both-too_large A B s t c a b long_s long_t first second small_s small_t none = (
     made : (M : List ℕ) × Generates (IsInBoth A B) M
     made = generates-exists (IsInBoth A B) c cofinite
 
-    past : 2 ^ 20 < get_or made.0 0 0
-    past = elim (cases_lt (2 ^ 20) (get_or made.0 0 0)) [
+    past : MULTIPLICITY_LIMIT < get_or made.0 0 0
+    past = elim (cases_lt MULTIPLICITY_LIMIT (get_or made.0 0 0)) [
       | inl less ↦ less
       | inr more ↦
           let p : IsInBoth A B (get_or made.0 0 0) = (made.1.same (get_or made.0 0 0)).1 (member-entry made.0 0 made.1.semigroup.not_empty) in

@@ -1,5 +1,5 @@
 -- What the order and the repeats of given generators do not change.
-use Rattle.std.proofs.Common.{◌≡◌, ℕ, ◌<◌, ◌≤◌, ◌^◌, List, length, get_or, ap, subst, ◌∙◌, inl, inr, arith}
+use Rattle.std.proofs.Common.{◌≡◌, ℕ, ◌<◌, ◌≤◌, List, length, get_or, ap, subst, ◌∙◌, inl, inr, arith}
 use Rattle.std.specs.Prelude.{Contains}
 use Rattle.std.specs.Int.{◌∣◌}
 use Rattle.std.specs.List.Sorted.{IsStrictlyIncreasing}
@@ -14,6 +14,7 @@ use Rattle.sg_apery.specs.Generators.{AreSmall, AreAccepted, AreRefused}
 use Rattle.sg_apery.specs.declared.fault.TableFault.{TableFault}
 use Rattle.sg_apery.specs.declared.fault.TableFault.TheVariants.{BadArgument, TooLarge, Memory}
 use Rattle.sg_apery.specs.Table.{IsAperyTable, IsTable, IsMinimalTable}
+use Rattle.sg_apery.specs.declared.limits.TheConstants.{GENERATOR_LIMIT, MULTIPLICITY_LIMIT}
 
 -- what holds of each entry of ys holds of each entry of xs, where ys lists those
 pub each-kept : (P : ℕ → Type 0) (xs ys : List ℕ) → ((x : ℕ) → Contains xs x → Contains ys x) → ((k : ℕ) → k < length ys → P (get_or ys k 0)) → (k : ℕ) → k < length xs → P (get_or xs k 0)
@@ -30,7 +31,7 @@ module _ (xs ys : List ℕ) (keeps : (x : ℕ) → Contains xs x → Contains ys
   member-same = holds-from_entries ys xs (λ k l. member-listed ys (get_or xs k 0) (keeps (get_or xs k 0) (place-contains xs k l)))
 
   pub small-same : AreSmall ys → AreSmall xs
-  small-same = each-kept (λ x. x < 2 ^ 32) xs ys keeps
+  small-same = each-kept (λ x. x < GENERATOR_LIMIT) xs ys keeps
 
   pub semigroup-same : IsNumericalSemigroup ys → IsNumericalSemigroup xs
   semigroup-same s = record {
@@ -61,7 +62,7 @@ refused-same xs ys keeps adds_none TooLarge h = elim h [
   | inl large ↦
       let p = contains-place xs (get_or ys large.0 0) (adds_none (get_or ys large.0 0) (place-contains ys large.0 large.1)) in
       inl (p.0, p.1, omega (arith, large.2, p.2))
-  | inr wide ↦ inr (small-same xs ys keeps adds_none wide.0, semigroup-same xs ys keeps adds_none wide.1, each-kept (λ x. 2 ^ 20 < x) xs ys keeps wide.2)
+  | inr wide ↦ inr (small-same xs ys keeps adds_none wide.0, semigroup-same xs ys keeps adds_none wide.1, each-kept (λ x. MULTIPLICITY_LIMIT < x) xs ys keeps wide.2)
 ]
 refused-same xs ys keeps adds_none (Memory e) h = tt
 
@@ -105,7 +106,7 @@ table-same D M t up all_small long h g = record {
   minimal = g.minimal;
   fit = record {
     multiplicity = omega (arith, h.short, long, first-same D M up h.semigroup g);
-    small = each-kept (λ x. x < 2 ^ 32) M D listed all_small;
+    small = each-kept (λ x. x < GENERATOR_LIMIT) M D listed all_small;
   };
   multiplicity = long ∙ first-same D M up h.semigroup g;
 }

@@ -1,5 +1,5 @@
 -- A numerical semigroup within the limits has every number from the product of the limits on.
-use Rattle.std.proofs.Common.{◌≡◌, ℕ, zero, suc, ◌+◌, ◌-◌, ◌*◌, ◌^◌, ◌%◌, ◌<◌, ◌≤◌, List, length, get_or, map, sym, ap, subst, ◌∙◌, inl, inr, arith}
+use Rattle.std.proofs.Common.{◌≡◌, ℕ, zero, suc, ◌+◌, ◌-◌, ◌*◌, ◌%◌, ◌<◌, ◌≤◌, List, length, get_or, map, sym, ap, subst, ◌∙◌, inl, inr, arith}
 use Rattle.std.specs.Prelude.{◌⊎◌}
 use Rattle.std.proofs.lemmas.Bool.{cases_lt}
 use Rattle.std.proofs.lemmas.Nat.{mod_below, mod-mul-add}
@@ -14,17 +14,18 @@ use Rattle.sg_apery.specs.Table.{IsAperyTable}
 use Rattle.sg_apery.proofs.AperyLemmas.{apery-member}
 use Rattle.sg_apery.proofs.BoundLemmas.{apery-bound}
 use Rattle.sg_apery.proofs.ExistsLemmas.{IsCofinite, generates-exists}
+use Rattle.sg_apery.specs.declared.limits.TheConstants.{APERY_ENTRY_LIMIT, GENERATOR_LIMIT, MULTIPLICITY_LIMIT}
 
 times-up : (c m : ℕ) → 0 < m → c ≤ c * m
 times-up c zero l = absurd (omega arith)
 times-up c (suc m) l = omega arith
 
 -- whether one of the first entries is past its limit
-large-search : (M : List ℕ) (n : ℕ) → n ≤ length M → ((k : ℕ) × (k < length M) × (2 ^ 32 ≤ get_or M k 0)) ⊎ ((k : ℕ) → k < n → get_or M k 0 < 2 ^ 32)
+large-search : (M : List ℕ) (n : ℕ) → n ≤ length M → ((k : ℕ) × (k < length M) × (GENERATOR_LIMIT ≤ get_or M k 0)) ⊎ ((k : ℕ) → k < n → get_or M k 0 < GENERATOR_LIMIT)
 large-search M zero l = inr (λ k m. absurd (omega arith))
 large-search M (suc n) l = elim (large-search M n (omega arith)) [
   | inl found ↦ inl found
-  | inr none ↦ elim (cases_lt (get_or M n 0) (2 ^ 32)) [
+  | inr none ↦ elim (cases_lt (get_or M n 0) GENERATOR_LIMIT) [
     | inr large ↦ inl (n, omega arith, large)
     | inl small ↦ inr (λ k m. elim (cases_lt k n) [
       | inl before ↦ none k before
@@ -35,7 +36,7 @@ large-search M (suc n) l = elim (large-search M n (omega arith)) [
 
 -- whether a list is within the limits
 fit-decided : (M : List ℕ) → IsFit M ⊎ IsPastLimits M
-fit-decided M = elim (cases_lt (2 ^ 20) (get_or M 0 0)) [
+fit-decided M = elim (cases_lt MULTIPLICITY_LIMIT (get_or M 0 0)) [
   | inl past ↦ inr (inl past)
   | inr within ↦ elim (large-search M (length M) (omega arith)) [
     | inl large ↦ inr (inr large)
@@ -93,7 +94,7 @@ module _ (P : ℕ → Type 0) (c : ℕ) (h : IsCofinite P c) where
   ]
 
   -- within the limits every number from their product on is there
-  fit-all : (M : List ℕ) → Generates P M → IsFit M → (n : ℕ) → 2 ^ 52 ≤ n → P n
+  fit-all : (M : List ℕ) → Generates P M → IsFit M → (n : ℕ) → APERY_ENTRY_LIMIT ≤ n → P n
   fit-all M g fit n l =
       let m = get_or M 0 0 in
       let positive : 0 < m = omega (arith, g.semigroup.positive 0 0 g.semigroup.not_empty) in
@@ -106,11 +107,11 @@ module _ (P : ℕ → Type 0) (c : ℕ) (h : IsCofinite P c) where
         modulus = subst (IsMember M) (sym long) first;
         apery = subst (λ k. IsApery M k made.0) (sym long) made.1;
       } in
-      let bound = apery-bound M made.0 (2 ^ 32) table (λ j k. omega (arith, fit.small j k)) (n % m) (omega (arith, mod_below n m positive, long)) in
+      let bound = apery-bound M made.0 GENERATOR_LIMIT table (λ j k. omega (arith, fit.small j k)) (n % m) (omega (arith, mod_below n m positive, long)) in
       (g.same n).1 ((apery-member M m made.0 positive first made.1 n).1 (omega (arith, bound, long, fit.multiplicity, l)))
 
   -- with a gap past that the semigroup is past the limits
-  pub too_large-from_gap : (n : ℕ) → 2 ^ 52 ≤ n → (P n → ⊥) → IsTooLarge P
+  pub too_large-from_gap : (n : ℕ) → APERY_ENTRY_LIMIT ≤ n → (P n → ⊥) → IsTooLarge P
   too_large-from_gap n l out =
       let made = generates-exists P c h in
       elim (fit-decided made.0) [
@@ -119,7 +120,7 @@ module _ (P : ℕ → Type 0) (c : ℕ) (h : IsCofinite P c) where
       ]
 
   -- and where no number up to the limit on multiplicities is in it
-  pub too_large-from_least : (m : ℕ) → 2 ^ 20 < m → ((x : ℕ) → 0 < x → P x → m ≤ x) → IsTooLarge P
+  pub too_large-from_least : (m : ℕ) → MULTIPLICITY_LIMIT < m → ((x : ℕ) → 0 < x → P x → m ≤ x) → IsTooLarge P
   too_large-from_least m l least =
       let made = generates-exists P c h in
       let M = made.0 in

@@ -1,5 +1,5 @@
 -- A list that meets Kunz's conditions is the Apery list of the numerical semigroup of the numbers above its entries.
-use Rattle.std.proofs.Common.{◌≡◌, ℕ, zero, suc, ◌+◌, ◌-◌, ◌*◌, ◌/◌, ◌^◌, ◌%◌, ◌<◌, ◌≤◌, ◌↔◌, List, length, get_or, set, refl, sym, ap, subst, ◌∙◌, inl, inr, arith}
+use Rattle.std.proofs.Common.{◌≡◌, ℕ, zero, suc, ◌+◌, ◌-◌, ◌*◌, ◌/◌, ◌%◌, ◌<◌, ◌≤◌, ◌↔◌, List, length, get_or, set, refl, sym, ap, subst, ◌∙◌, inl, inr, arith}
 use Rattle.std.specs.Prelude.{Contains, IsTrue, nat_le}
 use Rattle.std.specs.Int.{◌∣◌}
 use Rattle.std.proofs.lemmas.Bool.{cases_lt, cases_eq, leb-true, le-leb}
@@ -18,6 +18,7 @@ use Rattle.sg_apery.proofs.AperyLemmas.{apery-member, member-above, congruent-sp
 use Rattle.sg_apery.proofs.GeneratorLemmas.{contains-place, place-contains, member-listed}
 use Rattle.sg_apery.specs.Minimal.{IsPartOf}
 use Rattle.sg_apery.proofs.BoundLemmas.{apery-bound}
+use Rattle.sg_apery.specs.declared.limits.TheConstants.{GENERATOR_LIMIT}
 
 -- the sum of two residues, and the residue of the sum
 pub residue-sum : (a b n : ℕ) → (a % n + b % n) % n ≡ (a + b) % n
@@ -187,7 +188,7 @@ kunz-minimal_table t M k g fit first =
         short = omega (arith, first, fit.multiplicity);
         modulus = table.modulus;
         apery = table.apery;
-        small = λ i l. omega (arith, apery-bound M t (2 ^ 32) table (λ j m. omega (arith, fit.small j m)) i l, first, fit.multiplicity);
+        small = λ i l. omega (arith, apery-bound M t GENERATOR_LIMIT table (λ j m. omega (arith, fit.small j m)) i l, first, fit.multiplicity);
       };
       minimal = g.minimal;
       fit = fit;

@@ -8,6 +8,7 @@ use Rattle.std.proofs.lemmas.Nat.{mod_below}
 use Rattle.sg_defs.specs.Membership.{IsMember}
 use Rattle.sg_defs.proofs.MembershipLemmas.{member-add, member-entry}
 use Rattle.sg_apery.specs.Relaxation.{IsSound, reached_count}
+use Rattle.sg_apery.specs.declared.limits.TheConstants.{GENERATOR_LIMIT}
 
 -- 1 for a known entry
 abbrev counted : ℕ → ℕ
@@ -35,7 +36,7 @@ each-set P t k v inside p q i l = elim (cases_eq i k) [
   | inr other ↦ subst (P i) (sym (get_or-set_other t k i v 0 other)) (q i l)
 ]
 
-pub IsSound-set : (G t : List ℕ) (k v : ℕ) → IsSound G t → k < length t → v < get_or t k 0 → IsMember G v → v % length t ≡ k → v ≤ (reached_count t + 1) * 2 ^ 32 → IsSound G (set t k v)
+pub IsSound-set : (G t : List ℕ) (k v : ℕ) → IsSound G t → k < length t → v < get_or t k 0 → IsMember G v → v % length t ≡ k → v ≤ (reached_count t + 1) * GENERATOR_LIMIT → IsSound G (set t k v)
 IsSound-set G t k v s inside less q r b = record {
   not_empty = omega (arith, same_length);
   short = omega (arith, same_length, s.short);
@@ -44,7 +45,7 @@ IsSound-set G t k v s inside less q r b = record {
   member = λ i l. each-set (λ i x. x < 2 ^ 64 - 1 → IsMember G x) t k v inside (λ _. q) s.member i (omega (arith, same_length));
   residue = λ i l. each-set (λ i x. x < 2 ^ 64 - 1 → x % length (set t k v) ≡ i) t k v inside (λ _. ap (λ n. v % n) same_length ∙ r)
       (λ i l h. ap (λ n. get_or t i 0 % n) same_length ∙ s.residue i l h) i (omega (arith, same_length));
-  bound = λ i l. each-set (λ i x. x < 2 ^ 64 - 1 → x ≤ reached_count (set t k v) * 2 ^ 32) t k v inside new_bound
+  bound = λ i l. each-set (λ i x. x < 2 ^ 64 - 1 → x ≤ reached_count (set t k v) * GENERATOR_LIMIT) t k v inside new_bound
       (λ i l h. old_bound i l h) i (omega (arith, same_length));
 }
   where
@@ -54,13 +55,13 @@ IsSound-set G t k v s inside less q r b = record {
     fits : v < 2 ^ 64 - 1
     fits = omega (arith, s.short, count_by-le-length (λ x. nat_lt x (2 ^ 64 - 1)) t)
 
-    new_bound : v < 2 ^ 64 - 1 → v ≤ reached_count (set t k v) * 2 ^ 32
+    new_bound : v < 2 ^ 64 - 1 → v ≤ reached_count (set t k v) * GENERATOR_LIMIT
     new_bound _ = elim (reached-set t k v inside fits) [
       | inl h ↦ omega (arith, h.1)
       | inr h ↦ omega (arith, h.1, s.bound k inside h.0)
     ]
 
-    old_bound : (i : ℕ) → i < length t → get_or t i 0 < 2 ^ 64 - 1 → get_or t i 0 ≤ reached_count (set t k v) * 2 ^ 32
+    old_bound : (i : ℕ) → i < length t → get_or t i 0 < 2 ^ 64 - 1 → get_or t i 0 ≤ reached_count (set t k v) * GENERATOR_LIMIT
     old_bound i l h = elim (reached-set t k v inside fits) [
       | inl g ↦ omega (arith, g.1, s.bound i l h)
       | inr g ↦ omega (arith, g.1, s.bound i l h)

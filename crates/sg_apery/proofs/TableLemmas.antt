@@ -13,9 +13,10 @@ use Rattle.sg_apery.proofs.ResidueLemmas.{same_residue-add, member-residue}
 use Rattle.sg_apery.proofs.AperyLemmas.{apery-from_closed, apery-member}
 use Rattle.sg_apery.specs.Relaxation.{IsSound, IsSettled}
 use Rattle.sg_apery.specs.Table.{IsTable, IsMinimalTable}
+use Rattle.sg_apery.specs.declared.limits.TheConstants.{GENERATOR_LIMIT, MULTIPLICITY_LIMIT}
 
 -- where nothing but 0 is known yet the table is sound
-pub IsSound-first : (G t : List ℕ) → 0 < length t → length t ≤ 2 ^ 20 → ((j : ℕ) → j < length G → get_or G j 0 < 2 ^ 32) →
+pub IsSound-first : (G t : List ℕ) → 0 < length t → length t ≤ MULTIPLICITY_LIMIT → ((j : ℕ) → j < length G → get_or G j 0 < GENERATOR_LIMIT) →
     ((i : ℕ) → i < length t → get_or t i 0 ≡ 2 ^ 64 - 1) → IsSound G (set t 0 0)
 IsSound-first G t long short small unreached = record {
   not_empty = omega (arith, same_length);

@@ -1,5 +1,5 @@
 -- Small elements up to the conductor.
-use Rattle.std.proofs.Common.{◌≡◌, ℕ, ◌+◌, ◌-◌, ◌^◌, ◌<◌, ◌≤◌, ◌↔◌, List, length, get_or, take, sym, ap, subst, ◌∙◌, inl, inr, arith}
+use Rattle.std.proofs.Common.{◌≡◌, ℕ, ◌+◌, ◌-◌, ◌<◌, ◌≤◌, ◌↔◌, List, length, get_or, take, sym, ap, subst, ◌∙◌, inl, inr, arith}
 use Rattle.std.specs.Prelude.{Contains}
 use Rattle.std.proofs.lemmas.Bool.{cases_lt}
 use Rattle.std.proofs.lemmas.List.{get_or-take, length-take-le}
@@ -14,6 +14,7 @@ use Rattle.sg_apery.proofs.EntryLemmas.{first-least}
 use Rattle.sg_apery.proofs.FitLemmas.{too_large-from_gap, too_large-from_least}
 use Rattle.sg_apery.proofs.GeneratorLemmas.{contains-place, place-contains}
 use Rattle.sg_apery.proofs.SmallLemmas.{less, up_to, small-cofinite}
+use Rattle.sg_apery.specs.declared.limits.TheConstants.{APERY_ENTRY_LIMIT, MULTIPLICITY_LIMIT}
 
 module _ (list : List ℕ) (s : AreSmallElements list) where
   -- one more entry of the run
@@ -88,11 +89,11 @@ module _ (list : List ℕ) (s : AreSmallElements list) where
         last = let f : length (take (start + 1) list) - 1 ≡ start = omega (arith, long) in e ∙ ap (λ j. get_or (take (start + 1) list) j 0) f ∙ at start (omega arith)
 
   -- the multiplicity is past its limit
-  pub small-too_large_least : (m : ℕ) → IsClosedSet (IsInSmall list) → 2 ^ 20 < m → ((x : ℕ) → 0 < x → IsInSmall list x → m ≤ x) → IsTooLarge (IsInSmall list)
+  pub small-too_large_least : (m : ℕ) → IsClosedSet (IsInSmall list) → MULTIPLICITY_LIMIT < m → ((x : ℕ) → 0 < x → IsInSmall list x → m ≤ x) → IsTooLarge (IsInSmall list)
   small-too_large_least m closed l least = too_large-from_least (IsInSmall list) (get_or list (length list - 1) 0 + 1) (small-cofinite list s closed) m l least
 
   -- the conductor is past the product of the limits
-  pub small-too_large_gap : IsClosedSet (IsInSmall list) → 2 ^ 52 < get_or list (length list - 1) 0 → HasGapBelowLast list → IsTooLarge (IsInSmall list)
+  pub small-too_large_gap : IsClosedSet (IsInSmall list) → APERY_ENTRY_LIMIT < get_or list (length list - 1) 0 → HasGapBelowLast list → IsTooLarge (IsInSmall list)
   small-too_large_gap closed l gap =
       let c = get_or list (length list - 1) 0 in
       too_large-from_gap (IsInSmall list) (c + 1) (small-cofinite list s closed) (c - 1) (omega arith) (gap (c - 1) (omega arith))

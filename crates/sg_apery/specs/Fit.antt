@@ -5,12 +5,12 @@ use Rattle.sg_defs.specs.Membership.{Generates}
 use Rattle.sg_apery.specs.Generators.{HasLarge}
 use Rattle.sg_apery.specs.declared.fault.TableFault.{TableFault}
 use Rattle.sg_apery.specs.declared.fault.TableFault.TheVariants.{BadArgument, TooLarge, Memory}
-use Rattle.sg_apery.specs.declared.limits.TheConstants.{ENTRY_LIMIT, MULTIPLICITY_LIMIT, NARROW_GENERATORS, NARROW_PRODUCT}
+use Rattle.sg_apery.specs.declared.limits.TheConstants.{GENERATOR_LIMIT, MULTIPLICITY_LIMIT, NARROW_GENERATORS, NARROW_PRODUCT}
 
 -- the multiplicity and each minimal generator are within the limits
 pub record IsFit (M : List ℕ) : Type 0 where
   pub multiplicity : slice_index M 0 ≤ MULTIPLICITY_LIMIT
-  pub small : EachIndex M (λ k. slice_index M k < ENTRY_LIMIT)
+  pub small : EachIndex M (λ k. slice_index M k < GENERATOR_LIMIT)
 
 -- the multiplicity or a minimal generator is past its limit
 abbrev pub IsPastLimits : List ℕ → Type 0

@@ -2,7 +2,7 @@
 use Rattle.std.specs.Prelude.{ℕ, ◌<◌, ◌≤◌, ◌⊎◌, List, length, slice_index, EachIndex}
 use Rattle.std.specs.Int.{◌∣◌}
 use Rattle.sg_defs.specs.Membership.{IsNumericalSemigroup}
-use Rattle.sg_apery.specs.declared.limits.TheConstants.{ENTRY_LIMIT, MULTIPLICITY_LIMIT}
+use Rattle.sg_apery.specs.declared.limits.TheConstants.{GENERATOR_LIMIT, MULTIPLICITY_LIMIT}
 use Rattle.sg_apery.specs.declared.fault.TableFault.{TableFault}
 use Rattle.sg_apery.specs.declared.fault.TableFault.TheVariants.{BadArgument, TooLarge, Memory}
 
@@ -12,11 +12,11 @@ IsDivisorOfAll d xs = (k : ℕ) → k < length xs → d ∣ slice_index xs k
 
 -- every entry is below the limit
 abbrev pub AreSmall : List ℕ → Type 0
-AreSmall given = EachIndex given (λ k. slice_index given k < ENTRY_LIMIT)
+AreSmall given = EachIndex given (λ k. slice_index given k < GENERATOR_LIMIT)
 
 -- an entry is past the limit
 abbrev pub HasLarge : List ℕ → Type 0
-HasLarge given = (k : ℕ) × (k < length given) × (ENTRY_LIMIT ≤ slice_index given k)
+HasLarge given = (k : ℕ) × (k < length given) × (GENERATOR_LIMIT ≤ slice_index given k)
 
 -- what accepted generators are
 pub record AreAccepted (given : List ℕ) : Type 0 where

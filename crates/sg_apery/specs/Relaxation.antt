@@ -1,6 +1,6 @@
 -- What holds of a table while members are looked for in each residue class.
 use Rattle.std.specs.Prelude.{◌≡◌, ℕ, ◌+◌, ◌*◌, ◌%◌, ◌<◌, ◌≤◌, List, length, slice_index, count_by, nat_lt}
-use Rattle.sg_apery.specs.declared.limits.TheConstants.{ENTRY_LIMIT, MULTIPLICITY_LIMIT}
+use Rattle.sg_apery.specs.declared.limits.TheConstants.{GENERATOR_LIMIT, MULTIPLICITY_LIMIT}
 use Rattle.sg_apery.specs.declared.relaxation.TheConstants.{UNREACHED}
 use Rattle.sg_defs.specs.Membership.{IsMember}
 
@@ -12,11 +12,11 @@ reached_count t = count_by (λ x. nat_lt x UNREACHED) t
 pub record IsSound (G t : List ℕ) : Type 0 where
   pub not_empty : 0 < length t
   pub short : length t ≤ MULTIPLICITY_LIMIT
-  pub small : (j : ℕ) → j < length G → slice_index G j < ENTRY_LIMIT
+  pub small : (j : ℕ) → j < length G → slice_index G j < GENERATOR_LIMIT
   pub zero : slice_index t 0 ≡ 0
   pub member : (i : ℕ) → i < length t → slice_index t i < UNREACHED → IsMember G (slice_index t i)
   pub residue : (i : ℕ) → i < length t → slice_index t i < UNREACHED → slice_index t i % length t ≡ i
-  pub bound : (i : ℕ) → i < length t → slice_index t i < UNREACHED → slice_index t i ≤ reached_count t * ENTRY_LIMIT
+  pub bound : (i : ℕ) → i < length t → slice_index t i < UNREACHED → slice_index t i ≤ reached_count t * GENERATOR_LIMIT
 
 -- generator j leads from entry i to no lower entry
 abbrev pub IsSettledAt : List ℕ → List ℕ → ℕ → ℕ → Type 0

@@ -1,8 +1,8 @@
 -- What a table keeps.
-use Rattle.std.specs.Prelude.{◌≡◌, ℕ, ◌*◌, ◌<◌, ◌≤◌, List, length, slice_index}
+use Rattle.std.specs.Prelude.{◌≡◌, ℕ, ◌<◌, ◌≤◌, List, length, slice_index}
 use Rattle.sg_defs.specs.Membership.{IsMember, IsNumericalSemigroup, IsMinimal}
 use Rattle.sg_defs.specs.Apery.{IsApery}
-use Rattle.sg_apery.specs.declared.limits.TheConstants.{ENTRY_LIMIT, MULTIPLICITY_LIMIT}
+use Rattle.sg_apery.specs.declared.limits.TheConstants.{APERY_ENTRY_LIMIT, MULTIPLICITY_LIMIT}
 use Rattle.sg_apery.specs.Fit.{IsFit}
 
 -- t is the Apery list of G modulo its length, which is a member of G
@@ -19,7 +19,7 @@ pub record IsTable (G t : List ℕ) : Type 0 where
   pub short : length t ≤ MULTIPLICITY_LIMIT
   pub modulus : IsMember G (length t)
   pub apery : IsApery G (length t) t
-  pub small : (i : ℕ) → i < length t → slice_index t i ≤ MULTIPLICITY_LIMIT * ENTRY_LIMIT
+  pub small : (i : ℕ) → i < length t → slice_index t i ≤ APERY_ENTRY_LIMIT
 
 -- G is the minimal list, within the limits, and the modulus is the multiplicity
 pub record IsMinimalTable (G t : List ℕ) : Type 0 where

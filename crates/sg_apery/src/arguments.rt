@@ -6,7 +6,7 @@ ghost use Rattle.sg_defs.specs.Membership.{IsNumericalSemigroup};
 ghost use Rattle.sg_apery.specs.Generators.{AreSmall, HasLarge, IsDivisorOfAll};
 ghost use Rattle.sg_apery.specs.Entries.{IsGreatest};
 
-use crate::limits::ENTRY_LIMIT;
+use crate::limits::GENERATOR_LIMIT;
 use sg_nat::gcd;
 
 /// Whether every entry is below the limit.
@@ -15,7 +15,7 @@ pub fn are_small(entries: &[u64]) -> bool
     ensures one { IsFalse result → HasLarge entries.now }
 {
     for entry in entries {
-        if *entry >= ENTRY_LIMIT {
+        if *entry >= GENERATOR_LIMIT {
             return false;
         }
     }

@@ -5,14 +5,14 @@ ghost use Rattle.sg_apery.specs.Classes.{IsAboveEntry, IsKunz};
 ghost use Rattle.sg_apery.specs.Conditions.{IsClosedSet, IsInSmall};
 ghost use Rattle.sg_apery.specs.Small.{AreLeastFrom, AreSmallElements, IsLoweredBy};
 
-use crate::limits::{ENTRY_LIMIT, MULTIPLICITY_LIMIT};
+use crate::limits::{APERY_ENTRY_LIMIT, MULTIPLICITY_LIMIT};
 use std::alloc::{AllocError, Global};
 
 /// The least number from `start` on in a residue class.
 fn least_from(start: u64, modulus: u64, class: u64) -> u64
     requires class { class < modulus }
     requires short { modulus ≤ MULTIPLICITY_LIMIT }
-    requires start { start ≤ MULTIPLICITY_LIMIT * ENTRY_LIMIT }
+    requires start { start ≤ APERY_ENTRY_LIMIT }
     ensures residue { result % modulus ≡ class }
     ensures above { start ≤ result }
     ensures least { (x : ℕ) → start ≤ x → x % modulus ≡ class → result ≤ x }
@@ -28,7 +28,7 @@ fn least_from(start: u64, modulus: u64, class: u64) -> u64
 /// The least number from `start` on in each residue class.
 fn all_least_from(alloc: Global, start: u64, modulus: u64) -> Result<Vec<u64>, AllocError>
     requires short { modulus ≤ MULTIPLICITY_LIMIT }
-    requires start { start ≤ MULTIPLICITY_LIMIT * ENTRY_LIMIT }
+    requires start { start ≤ APERY_ENTRY_LIMIT }
     ensures { IfOk result (λ table. AreLeastFrom start modulus table.items) }
 {
     let mut table = Vec::new(alloc);
@@ -54,7 +54,7 @@ pub fn lower_all(table: &mut [u64], list: &[u64])
 pub fn least_list(alloc: Global, list: &[u64], modulus: u64) -> Result<Vec<u64>, AllocError>
     requires list { AreSmallElements list.now }
     requires closed { IsClosedSet (IsInSmall list.now) }
-    requires conductor { slice_index list.now (length list.now - 1) ≤ MULTIPLICITY_LIMIT * ENTRY_LIMIT }
+    requires conductor { slice_index list.now (length list.now - 1) ≤ APERY_ENTRY_LIMIT }
     requires positive { 0 < modulus }
     requires short { modulus ≤ MULTIPLICITY_LIMIT }
     requires modulus { IsInSmall list.now modulus }

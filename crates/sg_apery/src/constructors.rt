@@ -72,7 +72,7 @@ impl Table {
     /// multiples. It is one exactly where they are positive with greatest common divisor 1 (Rosales and Garcia-Sanchez,
     /// Lemma 2.1).
     ///
-    /// TooLarge where a number is at or past `ENTRY_LIMIT`; then BadArgument where none is given, one is 0 or their
+    /// TooLarge where a number is at or past `GENERATOR_LIMIT`; then BadArgument where none is given, one is 0 or their
     /// greatest common divisor is not 1; then TooLarge where the least passes `MULTIPLICITY_LIMIT`.
     pub fn from_generators(alloc: Global, given: &[u64]) -> Result<Table, TableFault>
         ensures generated { IfOk result (λ table. Generates (IsMember given.now) table) }

@@ -10,7 +10,7 @@ ghost use Rattle.sg_apery.specs.Fit.{IsSizeFault};
 use crate::constructors::apery_list;
 use crate::fault::TableFault;
 use crate::kunz::from_kunz;
-use crate::limits::{ENTRY_LIMIT, MULTIPLICITY_LIMIT};
+use crate::limits::{APERY_ENTRY_LIMIT, APERY_MODULUS_LIMIT, MULTIPLICITY_LIMIT};
 use crate::minimal::is_above_entry;
 use crate::table::Table;
 use sg_nat::Nats;
@@ -21,10 +21,10 @@ impl Table {
     /// Numerical Semigroups, 2009, Lemma 2.4).
     pub fn apery_at(&self, alloc: Global, n: u64) -> Result<Nats, AllocError>
         requires positive { 0 < n }
-        requires small { n ≤ MULTIPLICITY_LIMIT }
+        requires small { n ≤ APERY_MODULUS_LIMIT }
         requires member { IsMember self.now n }
         ensures apery { IfOk result (λ list. IsApery self.now n list) }
-        ensures small { IfOk result (λ list. EachIndex list (λ i. slice_index list i ≤ MULTIPLICITY_LIMIT * ENTRY_LIMIT)) }
+        ensures small { IfOk result (λ list. EachIndex list (λ i. slice_index list i ≤ APERY_ENTRY_LIMIT)) }
     {
         let list = apery_list(alloc, self.generators().as_slice(), n)?;
         Nats::from_slice(alloc, &list)
@@ -68,9 +68,9 @@ fn common_list(alloc: Global, a: &Table, b: &Table, modulus: u64) -> Result<Vec<
     ensures kunz { IfOk result (λ list. IsKunz list.items) }
     ensures same { IfOk result (λ list. (n : ℕ) → IsInBoth a.now b.now n ↔ IsAboveEntry list.items n) }
 {
-    let first = a.apery_at(alloc, modulus)?;
-    let second = b.apery_at(alloc, modulus)?;
-    greater_entries(alloc, first.as_slice(), second.as_slice())
+    let first = apery_list(alloc, a.generators().as_slice(), modulus)?;
+    let second = apery_list(alloc, b.generators().as_slice(), modulus)?;
+    greater_entries(alloc, &first, &second)
 }
 
 /// The numbers that are members of both, which are a numerical semigroup.
@@ -91,7 +91,7 @@ pub fn intersect(alloc: Global, a: &Table, b: &Table) -> Result<Table, TableFaul
 fn quotient_entry(apery: &[u64], d: u64, class: usize) -> u64
     requires class { class < length apery.now }
     requires short { length apery.now ≤ MULTIPLICITY_LIMIT }
-    requires small { EachIndex apery.now (λ i. slice_index apery.now i ≤ MULTIPLICITY_LIMIT * ENTRY_LIMIT) }
+    requires small { EachIndex apery.now (λ i. slice_index apery.now i ≤ APERY_ENTRY_LIMIT) }
     requires positive { 0 < d }
     ensures residue { result % length apery.now ≡ class }
     ensures above { (x : ℕ) → x % length apery.now ≡ class → (result ≤ x) ↔ IsAboveEntry apery.now (d * x) }
@@ -111,7 +111,7 @@ fn quotient_list(alloc: Global, apery: &[u64], d: u64) -> Result<Vec<u64>, Alloc
     requires not_empty { 0 < length apery.now }
     requires zero { slice_index apery.now 0 ≡ 0 }
     requires short { length apery.now ≤ MULTIPLICITY_LIMIT }
-    requires small { EachIndex apery.now (λ i. slice_index apery.now i ≤ MULTIPLICITY_LIMIT * ENTRY_LIMIT) }
+    requires small { EachIndex apery.now (λ i. slice_index apery.now i ≤ APERY_ENTRY_LIMIT) }
     requires positive { 0 < d }
     ensures classes { IfOk result (λ list. IsClassList list.items) }
     ensures same { IfOk result (λ list. (n : ℕ) → IsAboveEntry apery.now (d * n) ↔ IsAboveEntry list.items n) }

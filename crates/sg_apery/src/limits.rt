@@ -1,12 +1,20 @@
-//! The numbers that limit a table, and what it is used for.
-
-/// Each minimal generator lies below this number, and so does each given generator.
-pub const ENTRY_LIMIT: u64 = 4_294_967_296;
+//! The numbers that limit a table, and what it is used for. Each has its one home here: conditions, definitions and
+//! proofs name it, and `LimitLemmas` has what follows from the numbers themselves.
 
 /// The greatest multiplicity of a table.
 pub const MULTIPLICITY_LIMIT: u64 = 1_048_576;
 
-/// The greatest span for which the members up to the conductor are listed.
+/// Each minimal generator lies below this number, and so does each given generator.
+pub const GENERATOR_LIMIT: u64 = 4_294_967_296;
+
+/// No entry of the Apery list of a table passes this number: an entry is a sum of fewer generators than there are
+/// classes.
+pub const APERY_ENTRY_LIMIT: u64 = MULTIPLICITY_LIMIT * GENERATOR_LIMIT;
+
+/// The greatest modulus of an Apery list that is asked for. A table itself goes by the multiplicity.
+pub const APERY_MODULUS_LIMIT: u64 = 1_048_576;
+
+/// The greatest span of a semigroup whose members, gaps, decompositions or closures are listed.
 pub const SPAN_LIMIT: u64 = 16_777_216;
 
 /// The greatest number of minimal generators of a semigroup whose factorizations are listed.

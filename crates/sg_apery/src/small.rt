@@ -9,7 +9,7 @@ ghost use Rattle.sg_apery.specs.Small.{AreMarked, AreSmallElements, HasGapBefore
 use crate::classes::least_list;
 use crate::fault::TableFault;
 use crate::kunz::from_kunz;
-use crate::limits::{ENTRY_LIMIT, MULTIPLICITY_LIMIT};
+use crate::limits::{APERY_ENTRY_LIMIT, MULTIPLICITY_LIMIT};
 use crate::minimal::sort_distinct;
 use crate::table::Table;
 use std::alloc::{AllocError, Global};
@@ -150,7 +150,7 @@ fn from_closed(alloc: Global, list: &[u64]) -> Result<Table, TableFault>
         return Err(TableFault::TooLarge);
     }
     let conductor = list[list.len() - 1];
-    if conductor > MULTIPLICITY_LIMIT * ENTRY_LIMIT {
+    if conductor > APERY_ENTRY_LIMIT {
         return Err(TableFault::TooLarge);
     }
     let table = least_list(alloc, list, multiplicity)?;

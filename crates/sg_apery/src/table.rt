@@ -7,7 +7,7 @@ ghost use Rattle.sg_apery.specs.Fit.{IsFit, IsNarrow, IsSpan};
 ghost use Rattle.sg_apery.specs.Table.{IsMinimalTable};
 
 use crate::arguments::greatest;
-use crate::limits::{ENTRY_LIMIT, MULTIPLICITY_LIMIT, NARROW_GENERATORS, NARROW_PRODUCT};
+use crate::limits::{APERY_ENTRY_LIMIT, MULTIPLICITY_LIMIT, NARROW_GENERATORS, NARROW_PRODUCT};
 use sg_nat::Nats;
 use std::marker::Model;
 
@@ -76,7 +76,7 @@ impl Table {
         ensures entries { length result.now ≡ slice_index self.now 0 }
         ensures short { length result.now ≤ MULTIPLICITY_LIMIT }
         ensures apery { IsApery self.now (slice_index self.now 0) result.now }
-        ensures small { EachIndex result.now (λ i. slice_index result.now i ≤ MULTIPLICITY_LIMIT * ENTRY_LIMIT) }
+        ensures small { EachIndex result.now (λ i. slice_index result.now i ≤ APERY_ENTRY_LIMIT) }
     {
         self.apery.as_slice()
     }
@@ -85,7 +85,7 @@ impl Table {
     pub fn entry(&self, i: usize) -> u64
         requires { i < slice_index self.now 0 }
         ensures entry { IsAperyEntry self.now (slice_index self.now 0) i result }
-        ensures small { result ≤ MULTIPLICITY_LIMIT * ENTRY_LIMIT }
+        ensures small { result ≤ APERY_ENTRY_LIMIT }
     {
         self.apery[i]
     }

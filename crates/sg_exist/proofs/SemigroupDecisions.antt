@@ -6,7 +6,7 @@ use Rattle.std.specs.List.Sorted.{IsStrictlyIncreasing}
 use Rattle.std.proofs.lemmas.Nat.Gcd.{le_of_dvd}
 use Rattle.sg_defs.specs.Membership.{IsMember, Generates, IsNumericalSemigroup, IsMinimal}
 use Rattle.sg_apery.specs.Fit.{IsFit}
-use Rattle.sg_apery.specs.declared.limits.TheConstants.{ENTRY_LIMIT, MULTIPLICITY_LIMIT}
+use Rattle.sg_apery.specs.declared.limits.TheConstants.{GENERATOR_LIMIT, MULTIPLICITY_LIMIT}
 use Rattle.sg_apery.proofs.OneListLemmas.{one-minimal_list}
 use Rattle.sg_exist.proofs.MemberDecisions.{member-decided}
 use Rattle.sg_exist.specs.Decided.{Decided}
@@ -58,7 +58,7 @@ minimal-decided M = elim (increasing-decided M) [
 pub fit-decided : (M : List ℕ) → Decided (IsFit M)
 fit-decided M = elim (decided-le (get_or M 0 0) MULTIPLICITY_LIMIT) [
   | inr not ↦ inr (λ f. not f.multiplicity)
-  | inl first ↦ elim (each-below (λ k. get_or M k 0 < ENTRY_LIMIT) (λ k. decided-lt (get_or M k 0) ENTRY_LIMIT) (length M)) [
+  | inl first ↦ elim (each-below (λ k. get_or M k 0 < GENERATOR_LIMIT) (λ k. decided-lt (get_or M k 0) GENERATOR_LIMIT) (length M)) [
     | inr not ↦ inr (λ f. not f.small)
     | inl small ↦ inl (record { multiplicity = first; small = small })
   ]

@@ -5,16 +5,16 @@ use Rattle.std.proofs.lemmas.Int.{ints}
 use lib.Signed.{lt_z}
 use Rattle.sg_defs.specs.Apery.{IsApery}
 use Rattle.sg_defs.specs.Membership.{IsIntegerMember}
-use Rattle.sg_apery.specs.declared.limits.TheConstants.{MULTIPLICITY_LIMIT}
+use Rattle.sg_apery.specs.declared.limits.TheConstants.{APERY_MODULUS_LIMIT}
 use Rattle.sg_rows.proofs.Replying.{Passes}
 use Rattle.sg_facts.specs.Modulo.{IsAperyModulo, apery_modulo}
 
 not_below : (x y : ℤ) → lt_z x y ≡ false → x <ℤ y → ⊥
 not_below x y h l = grind (arith, ints)
 
-pub modulo_passes : (G : List ℕ) (n : ℤ) → lt_z (pos MULTIPLICITY_LIMIT) n ≡ false → lt_z n (pos 1) ≡ false → IsIntegerMember G n → Passes (apery_modulo G n)
+pub modulo_passes : (G : List ℕ) (n : ℤ) → lt_z (pos APERY_MODULUS_LIMIT) n ≡ false → lt_z n (pos 1) ≡ false → IsIntegerMember G n → Passes (apery_modulo G n)
 modulo_passes G n small positive member = record {
-  size = not_below (pos MULTIPLICITY_LIMIT) n small;
+  size = not_below (pos APERY_MODULUS_LIMIT) n small;
   bad = bad;
   limit = λ h. h;
   many = λ h. h;

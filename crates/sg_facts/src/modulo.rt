@@ -7,7 +7,7 @@ ghost use Rattle.sg_facts.specs.Modulo.{apery_modulo, apery_list_modulo_of};
 ghost use Rattle.sg_rows.specs.Order.{fits};
 ghost use Rattle.sg_rows.specs.Replies.{Replies};
 
-use sg_apery::{MULTIPLICITY_LIMIT, Table};
+use sg_apery::{APERY_MODULUS_LIMIT, Table};
 use sg_rows::{CallFault, Fault, natural_list, semigroup_and_integer};
 use sg_store::Store;
 use sg_value::Value;
@@ -17,7 +17,7 @@ use std::alloc::Global;
 fn apery_modulo(alloc: Global, table: &Table, n: i64) -> Result<Value, CallFault>
     ensures { (store : Known) → Replies result store (fits (apery_modulo table.now n)) }
 {
-    if n > MULTIPLICITY_LIMIT as i64 {
+    if n > APERY_MODULUS_LIMIT as i64 {
         return Err(CallFault::Script(Fault::TooLarge));
     }
     if n < 1 {
@@ -31,7 +31,7 @@ fn apery_modulo(alloc: Global, table: &Table, n: i64) -> Result<Value, CallFault
 
 /// The Apery list modulo a member `n` above 0, of a semigroup and `n` in either order: entry `i` is the least member
 /// congruent to `i` (Rosales and Garcia-Sanchez). Arguments of other kinds are WrongType; `n` past
-/// 1,048,576 is TooLarge; `n` below 1 or outside the semigroup is BadArgument.
+/// `APERY_MODULUS_LIMIT` is TooLarge; `n` below 1 or outside the semigroup is BadArgument.
 pub fn apery_list_modulo_of(
     alloc: Global,
     store: &mut Store,

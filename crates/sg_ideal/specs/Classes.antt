@@ -3,7 +3,7 @@ use Rattle.std.specs.Prelude.{◌≡◌, ℕ, ℤ, pos, ◌+ℤ◌, ◌-ℤ◌, 
 use Rattle.sg_defs.specs.Membership.{AtNatural}
 use Rattle.sg_apery.specs.Classes.{IsAboveEntry}
 use Rattle.sg_lawful.specs.Lawful.{IsLawfulList}
-use Rattle.sg_apery.specs.declared.limits.TheConstants.{ENTRY_LIMIT, MULTIPLICITY_LIMIT}
+use Rattle.sg_apery.specs.declared.limits.TheConstants.{APERY_ENTRY_LIMIT, MULTIPLICITY_LIMIT}
 use Rattle.sg_ideal.specs.Value.{GeneratesIdeal}
 use Rattle.sg_lawful.specs.Generators.{AreSmall}
 
@@ -12,7 +12,7 @@ pub record AreClasses (t : List ℕ) : Type 0 where
   pub not_empty : 0 < length t
   pub short : length t ≤ MULTIPLICITY_LIMIT
   pub residue : (i : ℕ) → i < length t → slice_index t i % length t ≡ i
-  pub small : (i : ℕ) → i < length t → slice_index t i ≤ MULTIPLICITY_LIMIT * ENTRY_LIMIT
+  pub small : (i : ℕ) → i < length t → slice_index t i ≤ APERY_ENTRY_LIMIT
 
 -- x is base and a number that is at least its entry
 abbrev pub IsFrom : ℤ → List ℕ → ℤ → Type 0
@@ -76,4 +76,4 @@ pub record IsReduced (t : List ℕ) (base : ℤ) (I : List ℤ) (list : List ℕ
 pub record IsLeastAbove (t : List ℕ) (least : ℕ) : Type 0 where
   pub above : IsAboveEntry t least
   pub below : (n : ℕ) → IsAboveEntry t n → least ≤ n
-  pub small : least ≤ MULTIPLICITY_LIMIT * ENTRY_LIMIT
+  pub small : least ≤ APERY_ENTRY_LIMIT

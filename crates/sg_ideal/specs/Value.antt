@@ -2,7 +2,7 @@
 use Rattle.std.specs.Prelude.{◌≡◌, ℕ, zero, suc, ◌+ℤ◌, ◌*◌, ◌-◌, ◌<◌, ℤ, pos, negsuc, ◌-ℤ◌, slice_index_or, ◌≤ℤ◌, ◌↔◌, List, length, Contains}
 use Rattle.sg_defs.specs.Ideals.{IsIdealMember, IsMinimalIdeal}
 pub use Rattle.sg_lawful.specs.Generators.{IsSmall, IsLarge, AreSmall, HasLarge}
-use Rattle.sg_apery.specs.declared.limits.TheConstants.{ENTRY_LIMIT, MULTIPLICITY_LIMIT}
+use Rattle.sg_apery.specs.declared.limits.TheConstants.{APERY_ENTRY_LIMIT}
 
 -- the minimal generators of the ambient semigroup, and those of the ideal
 pub record IdealValue : Type 0 where
@@ -40,7 +40,7 @@ HasLargeGenerator G P = (I : List ℤ) × GeneratesIdeal G P I × HasLarge I
 
 -- each lies between -1 and highest, which is no more than an entry of an Apery list
 pub record AreWithin (highest : ℤ) (l : List ℤ) : Type 0 where
-  pub small : highest ≤ℤ pos (MULTIPLICITY_LIMIT * ENTRY_LIMIT)
+  pub small : highest ≤ℤ pos APERY_ENTRY_LIMIT
   pub low : (k : ℕ) → k < length l → negsuc 0 ≤ℤ slice_index_or l k (pos 0)
   pub high : (k : ℕ) → k < length l → slice_index_or l k (pos 0) ≤ℤ highest
 

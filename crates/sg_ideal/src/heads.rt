@@ -12,7 +12,7 @@ ghost use Rattle.sg_lawful.specs.Generators.{AreSmall};
 use crate::classes::is_above;
 use crate::fault::IdealFault;
 use crate::given::is_small;
-use sg_apery::{ENTRY_LIMIT, MULTIPLICITY_LIMIT};
+use sg_apery::APERY_ENTRY_LIMIT;
 use sg_nat::Ints;
 use std::alloc::{AllocError, Global};
 
@@ -65,7 +65,7 @@ pub(crate) fn heads(
 pub(crate) fn raise(alloc: Global, base: i64, numbers: &[u64]) -> Result<Ints, IdealFault>
     requires low { neg_ℤ (pos (2 ^ 62)) ≤ℤ base }
     requires high { base ≤ℤ pos (2 ^ 62) }
-    requires small { EachIndex numbers.now (λ k. slice_index numbers.now k ≤ MULTIPLICITY_LIMIT * ENTRY_LIMIT) }
+    requires small { EachIndex numbers.now (λ k. slice_index numbers.now k ≤ APERY_ENTRY_LIMIT) }
     ensures raised { IfOk result (λ list. list ≡ raised_by base numbers.now) }
     ensures small { IfOk result AreSmall }
     ensures refused { IfErr result (IsListFault (raised_by base numbers.now)) }

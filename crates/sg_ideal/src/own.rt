@@ -9,14 +9,14 @@ ghost use Rattle.sg_ideal.specs.Value.{IsIdealOf, IsReflected, AreWithin};
 
 use crate::fault::IdealFault;
 use crate::ideal::Ideal;
-use sg_apery::{ENTRY_LIMIT, Table};
+use sg_apery::{GENERATOR_LIMIT, Table};
 use sg_invar::frobenius;
 use sg_nat::Ints;
 use std::alloc::{AllocError, Global};
 
 /// The numbers as integers.
 fn integers(alloc: Global, numbers: &[u64]) -> Result<Ints, AllocError>
-    requires { EachIndex numbers.now (λ k. slice_index numbers.now k < ENTRY_LIMIT) }
+    requires { EachIndex numbers.now (λ k. slice_index numbers.now k < GENERATOR_LIMIT) }
     ensures { IfOk result (λ list. list ≡ map (λ n. pos n) numbers.now) }
 {
     let mut list = Ints::new(alloc);

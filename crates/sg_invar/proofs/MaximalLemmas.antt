@@ -1,5 +1,5 @@
 -- The maximal entries, collected class by class, sorted, and lowered by the modulus.
-use Rattle.std.proofs.Common.{◌≡◌, ◌≢◌, ℕ, ◌+◌, ◌%◌, ◌<◌, ◌≤◌, ◌^◌, List, [], ◌∷◌, ◌++◌, length, get_or, map, sym, ap, subst, ◌∙◌, inl, inr, arith}
+use Rattle.std.proofs.Common.{◌≡◌, ◌≢◌, ℕ, ◌+◌, ◌%◌, ◌<◌, ◌≤◌, List, [], ◌∷◌, ◌++◌, length, get_or, map, sym, ap, subst, ◌∙◌, inl, inr, arith}
 use Rattle.std.specs.Prelude.{AllPairs, Contains, ℤ, pos, negsuc, ◌+ℤ◌, ◌-ℤ◌, ◌<ℤ◌}
 use Rattle.std.specs.List.Sorted.{IsPermutation, IsSorted}
 use Rattle.std.specs.Ordering.{nat_cmp}
@@ -22,6 +22,7 @@ use Rattle.sg_defs.specs.Invariants.{IsPseudoFrobenius}
 use Rattle.sg_invar.proofs.EntryLemmas.{entry-unique}
 use Rattle.sg_invar.proofs.PseudoFrobeniusLemmas.{maximal-entry}
 use Rattle.sg_invar.specs.Maximal.{IsMaximalEntry, Collects}
+use Rattle.sg_apery.specs.declared.limits.TheConstants.{APERY_ENTRY_LIMIT}
 
 pub collects-none : (G : List ℕ) (m : ℕ) → Collects G m 0 []
 collects-none G m = record {
@@ -46,7 +47,7 @@ collects-skip G m n w l positive modulus e not h = record {
   );
 }
 
-pub collects-push : (G : List ℕ) (m n w : ℕ) (l : List ℕ) → 0 < m → IsMember G m → IsAperyEntry G m n w → w ≤ 2 ^ 52 → IsMaximalEntry G m w → Collects G m n l → Collects G m (n + 1) (l ++ w ∷ [])
+pub collects-push : (G : List ℕ) (m n w : ℕ) (l : List ℕ) → 0 < m → IsMember G m → IsAperyEntry G m n w → w ≤ APERY_ENTRY_LIMIT → IsMaximalEntry G m w → Collects G m n l → Collects G m (n + 1) (l ++ w ∷ [])
 collects-push G m n w l positive modulus e small here h = record {
   apart = all_pairs_push (λ v w. v ≢ w) l w h.apart (λ k d inside. differs (get_or l k d) ((h.exactly (get_or l k d)).0 (listed k d inside)).0);
   small = λ v q. elim (Contains-push_cases l w v q) [ inl before ↦ h.small v before | inr same ↦ omega (arith, same, small) ];
@@ -88,7 +89,7 @@ lists-sorted G m l sorted positive h moved order = record {
       | inr other ↦ elim (eqb_tells y x) [ inl back ↦ absurd (other.1 (sym back.1)) | inr both ↦ other.0 ∙ sym both.0 ]
     ]
 
-pub small-sorted : (G : List ℕ) (m n : ℕ) (l sorted : List ℕ) → Collects G m n l → IsPermutation l sorted → (k : ℕ) → k < length sorted → get_or sorted k 0 ≤ 2 ^ 52
+pub small-sorted : (G : List ℕ) (m n : ℕ) (l sorted : List ℕ) → Collects G m n l → IsPermutation l sorted → (k : ℕ) → k < length sorted → get_or sorted k 0 ≤ APERY_ENTRY_LIMIT
 small-sorted G m n l sorted h moved k inside =
     h.small (get_or sorted k 0) (Contains-permutation sorted l (get_or sorted k 0) (IsPermutation-sym l sorted moved) (Contains-get_or sorted k 0 inside))
 

@@ -6,7 +6,7 @@ ghost use Rattle.sg_defs.specs.Listings.{Lists};
 ghost use Rattle.sg_defs.specs.Invariants.{IsGap, AreSmallElements, IsFundamentalGap};
 
 use crate::numbers::conductor;
-use sg_apery::{ENTRY_LIMIT, MULTIPLICITY_LIMIT, Table};
+use sg_apery::{APERY_ENTRY_LIMIT, Table};
 use sg_nat::Nats;
 use std::alloc::{AllocError, Global};
 
@@ -47,7 +47,7 @@ pub fn small_elements(alloc: Global, table: &Table) -> Result<Nats, AllocError>
 /// Whether a number is a gap of which each multiple by 2 or more is a member. Twice and three times it are enough,
 /// since every greater multiple is a sum of these.
 fn is_fundamental_gap(table: &Table, n: u64) -> bool
-    requires { n ≤ MULTIPLICITY_LIMIT * ENTRY_LIMIT }
+    requires { n ≤ APERY_ENTRY_LIMIT }
     ensures { IsTrue result ↔ IsFundamentalGap table.now n }
 {
     if is_member(table, n) {

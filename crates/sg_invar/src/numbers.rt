@@ -4,14 +4,14 @@ ghost use Rattle.std.specs.Prelude.{◌*◌, ◌+◌, ◌≤◌, ◌⊎◌, ℕ,
 ghost use Rattle.sg_defs.specs.Membership.{IsMember};
 ghost use Rattle.sg_defs.specs.Invariants.{IsFrobenius, IsConductor, IsGap, IsGenus};
 
-use sg_apery::{ENTRY_LIMIT, MULTIPLICITY_LIMIT, Table};
+use sg_apery::{APERY_ENTRY_LIMIT, Table};
 
 /// The greatest integer that is no member, and -1 for the semigroup of all naturals: the greatest entry of the Apery
 /// list less the multiplicity (Rosales and Garcia-Sanchez, Proposition 2.12). It takes no memory.
 pub fn frobenius(table: &Table) -> i64
     ensures frobenius { IsFrobenius table.now result }
     ensures low { negsuc 0 ≤ℤ result }
-    ensures high { result ≤ℤ pos (MULTIPLICITY_LIMIT * ENTRY_LIMIT) }
+    ensures high { result ≤ℤ pos APERY_ENTRY_LIMIT }
 {
     let multiplicity = table.multiplicity();
     let mut greatest = table.entry(0);
@@ -24,7 +24,7 @@ pub fn frobenius(table: &Table) -> i64
 /// The least number from which on every integer is a member: the Frobenius number and 1. It takes no memory.
 pub fn conductor(table: &Table) -> u64
     ensures conductor { IsConductor table.now result }
-    ensures small { result ≤ MULTIPLICITY_LIMIT * ENTRY_LIMIT + 1 }
+    ensures small { result ≤ APERY_ENTRY_LIMIT + 1 }
 {
     (frobenius(table) + 1) as u64
 }
@@ -34,7 +34,7 @@ pub fn conductor(table: &Table) -> u64
 pub fn genus(table: &Table) -> u64
     ensures genus { IsGenus table.now result }
     ensures decided { (n : ℕ) → IsMember table.now n ⊎ IsGap table.now n }
-    ensures small { result ≤ MULTIPLICITY_LIMIT * ENTRY_LIMIT }
+    ensures small { result ≤ APERY_ENTRY_LIMIT }
 {
     let multiplicity = table.multiplicity();
     let mut gaps = 0;

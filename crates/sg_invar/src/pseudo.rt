@@ -7,7 +7,7 @@ ghost use Rattle.sg_defs.specs.Invariants.{IsFrobenius, IsPseudoFrobenius, IsSpe
 ghost use Rattle.sg_invar.specs.Maximal.{IsMaximalEntry, Collects};
 
 use crate::numbers::frobenius;
-use sg_apery::{ENTRY_LIMIT, MULTIPLICITY_LIMIT, Table};
+use sg_apery::{APERY_ENTRY_LIMIT, MULTIPLICITY_LIMIT, Table};
 use sg_nat::Ints;
 use std::alloc::{AllocError, Global};
 
@@ -15,7 +15,7 @@ use std::alloc::{AllocError, Global};
 /// first that moves it past the Frobenius number ends the search.
 fn is_pseudo_frobenius(table: &Table, x: i64, frobenius: i64) -> bool
     requires frobenius { IsFrobenius table.now frobenius }
-    requires high { frobenius ≤ℤ pos (MULTIPLICITY_LIMIT * ENTRY_LIMIT) }
+    requires high { frobenius ≤ℤ pos APERY_ENTRY_LIMIT }
     requires outside { IsIntegerMember table.now x → ⊥ }
     requires low { neg_ℤ (pos MULTIPLICITY_LIMIT) ≤ℤ x }
     ensures { IsTrue result ↔ IsPseudoFrobenius table.now x }
@@ -51,7 +51,7 @@ fn maximal_entries(alloc: Global, table: &Table) -> Result<Vec<u64>, AllocError>
 
 /// Each entry less a number.
 fn lowered(alloc: Global, entries: &[u64], by: u64) -> Result<Ints, AllocError>
-    requires entries { EachIndex entries.now (λ k. slice_index entries.now k ≤ MULTIPLICITY_LIMIT * ENTRY_LIMIT) }
+    requires entries { EachIndex entries.now (λ k. slice_index entries.now k ≤ APERY_ENTRY_LIMIT) }
     requires by { by ≤ MULTIPLICITY_LIMIT }
     ensures { IfOk result (λ numbers. numbers ≡ map (λ entry. pos entry -ℤ pos by) entries.now) }
 {
@@ -77,7 +77,7 @@ pub fn pseudo_frobenius(alloc: Global, table: &Table) -> Result<Ints, AllocError
 /// Whether twice a number is a member. Where that is past the Frobenius number it needs no look-up.
 fn has_double(table: &Table, x: i64, frobenius: i64) -> bool
     requires frobenius { IsFrobenius table.now frobenius }
-    requires high { frobenius ≤ℤ pos (MULTIPLICITY_LIMIT * ENTRY_LIMIT) }
+    requires high { frobenius ≤ℤ pos APERY_ENTRY_LIMIT }
     requires low { negsuc 0 ≤ℤ x }
     requires below { x ≤ℤ frobenius }
     ensures { IsTrue result ↔ IsIntegerMember table.now (x +ℤ x) }

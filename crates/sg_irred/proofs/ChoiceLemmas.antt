@@ -10,7 +10,7 @@ use Rattle.std.proofs.lemmas.List.Kept.{AllPairs-cons}
 use Rattle.sg_defs.specs.Membership.{IsMember}
 use Rattle.sg_defs.specs.Invariants.{IsGap}
 use Rattle.sg_defs.specs.Decomposition.{IsInCover, IsInEachCover, IsChosen}
-use Rattle.sg_apery.specs.declared.limits.TheConstants.{ENTRY_LIMIT, MULTIPLICITY_LIMIT}
+use Rattle.sg_apery.specs.declared.limits.TheConstants.{APERY_ENTRY_LIMIT}
 use Rattle.sg_irred.specs.Cover.{AreNatural}
 
 -- h is a natural that lies in the cover of k
@@ -41,7 +41,7 @@ each-at G ks h k n x all l e f =
 
 -- not negative, and at most the greatest entry of an Apery list
 abbrev pub IsBounded : ℤ → Type 0
-IsBounded h = (pos 0 ≤ℤ h) × (h ≤ℤ pos (MULTIPLICITY_LIMIT * ENTRY_LIMIT))
+IsBounded h = (pos 0 ≤ℤ h) × (h ≤ℤ pos APERY_ENTRY_LIMIT)
 
 -- whatever is chosen from the i-th gap on, after those chosen so far, is with these chosen from all gaps
 abbrev pub IsChosenUpTo : List ℕ → List ℤ → ℕ → List ℤ → Type 0
@@ -90,7 +90,7 @@ chosen-leave G hs chosen i h d before l e not_each rest tail =
     before rest (subst (λ l. IsChosen G (reverse chosen) l rest) (sym c) here)
 
 -- one more natural
-pub natural-push : (xs : List ℤ) (h : ℤ) → AreNatural xs → pos 0 ≤ℤ h → h ≤ℤ pos (MULTIPLICITY_LIMIT * ENTRY_LIMIT) → AreNatural (xs ++ h ∷ [])
+pub natural-push : (xs : List ℤ) (h : ℤ) → AreNatural xs → pos 0 ≤ℤ h → h ≤ℤ pos APERY_ENTRY_LIMIT → AreNatural (xs ++ h ∷ [])
 natural-push xs h before low high k l = elim (cases_lt k (length xs)) [
   | inl less ↦ subst IsBounded (sym (get_or_append_left xs (h ∷ []) (pos 0) k less)) (before k less)
   | inr more ↦ subst IsBounded (sym (get_or_push xs h (pos 0) k (let e : length xs ≡ k = omega (arith, more, l, length_push xs h) in e))) (low, high)

@@ -11,7 +11,7 @@ use Rattle.sg_defs.specs.Membership.{IsMember, IsIntegerMember, Generates}
 use Rattle.sg_defs.specs.Invariants.{IsFrobenius}
 use Rattle.sg_apery.specs.Classes.{IsAboveEntry, IsKunz}
 use Rattle.sg_apery.specs.Fit.{IsPastLimits, IsSpan, IsTooLarge}
-use Rattle.sg_apery.specs.declared.limits.TheConstants.{ENTRY_LIMIT, MULTIPLICITY_LIMIT, SPAN_LIMIT}
+use Rattle.sg_apery.specs.declared.limits.TheConstants.{GENERATOR_LIMIT, MULTIPLICITY_LIMIT, SPAN_LIMIT}
 use Rattle.sg_apery.proofs.AperyLemmas.{congruent-split}
 use Rattle.sg_apery.proofs.EntryLemmas.{first-least}
 use Rattle.sg_apery.proofs.GeneratorLemmas.{member-split}
@@ -172,7 +172,7 @@ module _ (G : List ℕ) (h : ℤ) (m : ℕ) (l : List ℕ) (natural : pos 0 ≤�
           outside-negative f p less = p.above (negsuc 0) less
 
   -- the minimal list is within the limits where those two together are
-  pub cover-fit : (f : ℤ) (M : List ℕ) → IsFrobenius G f → (f +ℤ pos m) <ℤ pos ENTRY_LIMIT → m ≤ MULTIPLICITY_LIMIT → m < ENTRY_LIMIT →
+  pub cover-fit : (f : ℤ) (M : List ℕ) → IsFrobenius G f → (f +ℤ pos m) <ℤ pos GENERATOR_LIMIT → m ≤ MULTIPLICITY_LIMIT → m < GENERATOR_LIMIT →
       Generates (IsAboveEntry l) M → IsPastLimits M → ⊥
   cover-fit f M p room short low g past = elim past [
     | inl wide ↦ elim (member-split M m ((g.same m).0 ((above-cover m).1 (inl modulus)))) [
@@ -182,7 +182,7 @@ module _ (G : List ℕ) (h : ℤ) (m : ℕ) (l : List ℕ) (natural : pos 0 ≤�
     | inr large ↦ listed large.0 large.1 large.2
   ]
     where
-      listed : (k : ℕ) → k < length M → ENTRY_LIMIT ≤ get_or M k 0 → ⊥
+      listed : (k : ℕ) → k < length M → GENERATOR_LIMIT ≤ get_or M k 0 → ⊥
       listed k inside big =
           let c = cover-kunz.classes in
           let s = class-semigroup l (class_list l) c (λ x q. q) (λ x q. q) in
@@ -190,7 +190,7 @@ module _ (G : List ℕ) (h : ℤ) (m : ℕ) (l : List ℕ) (natural : pos 0 ≤�
           (λ n. (member-made l (class_list l) c (λ x q. q) n, above-member l cover-kunz (class_list l) (λ x q. q) n)) k inside in
           small at.0 (omega (arith, at.1, length-set l 0 (length l))) (get_or_default (class_list l) at.0 0 (get_or M k 0) at.1 ∙ at.2) big
         where
-          small : (j : ℕ) → j < length l → get_or (class_list l) j 0 ≡ get_or M k 0 → ENTRY_LIMIT ≤ get_or M k 0 → ⊥
+          small : (j : ℕ) → j < length l → get_or (class_list l) j 0 ≡ get_or M k 0 → GENERATOR_LIMIT ≤ get_or M k 0 → ⊥
           small j j_in e big = elim (cases_eq j 0) [
             | inl zero_place ↦ omega (arith, e, big, low, long, subst (λ j. get_or (class_list l) j 0 ≡ length l) (sym zero_place) (get_or-set_same l 0 (length l) 0 (omega arith)))
             | inr other ↦
@@ -216,5 +216,5 @@ module _ (G : List ℕ) (h : ℤ) (l : List ℕ) (natural : pos 0 ≤ℤ h) (c :
   pub list-fits : length l ≤ MULTIPLICITY_LIMIT → (s : ℕ) → IsSpan G s → s ≤ SPAN_LIMIT → IsTooLarge (IsAboveEntry l) → ⊥
   list-fits short s span within large =
       let e = span.2 in
-      let room : (span.0 +ℤ pos (get_or G 0 0)) <ℤ pos ENTRY_LIMIT = omega (arith, ints, e, within) in
+      let room : (span.0 +ℤ pos (get_or G 0 0)) <ℤ pos GENERATOR_LIMIT = omega (arith, ints, e, within) in
       cover-fit G h (get_or G 0 0) l natural some refl first_member c span.0 large.0 span.1 room (omega (arith, short, c.entries)) (omega (arith, short, c.entries)) large.1 large.2

@@ -1,7 +1,7 @@
 -- The least numbers of a cover in their residue classes.
 use Rattle.std.specs.Prelude.{◌≡◌, ℕ, ℤ, pos, ◌≤ℤ◌, slice_index_or, ◌+◌, ◌%◌, ◌*◌, ◌<◌, List, length, slice_index}
 use Rattle.sg_defs.specs.Decomposition.{IsInCover}
-use Rattle.sg_apery.specs.declared.limits.TheConstants.{ENTRY_LIMIT, MULTIPLICITY_LIMIT}
+use Rattle.sg_apery.specs.declared.limits.TheConstants.{APERY_ENTRY_LIMIT}
 
 -- n less the multiplicity lies in the cover of h
 abbrev pub HasLesser : List ℕ → ℤ → ℕ → Type 0
@@ -20,4 +20,4 @@ pub record IsCoverList (G : List ℕ) (h : ℤ) (n : ℕ) (l : List ℕ) : Type 
 
 -- each entry is a natural, and at most the greatest entry of an Apery list
 abbrev pub AreNatural : List ℤ → Type 0
-AreNatural xs = (k : ℕ) → k < length xs → (pos 0 ≤ℤ slice_index_or xs k (pos 0)) × (slice_index_or xs k (pos 0) ≤ℤ pos (MULTIPLICITY_LIMIT * ENTRY_LIMIT))
+AreNatural xs = (k : ℕ) → k < length xs → (pos 0 ≤ℤ slice_index_or xs k (pos 0)) × (slice_index_or xs k (pos 0) ≤ℤ pos APERY_ENTRY_LIMIT)

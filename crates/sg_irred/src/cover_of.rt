@@ -6,15 +6,15 @@ ghost use Rattle.sg_defs.specs.Membership.{Generates};
 ghost use Rattle.sg_apery.specs.Fit.{IsSpan};
 ghost use Rattle.sg_irred.specs.Cover.{HasLesser, IsLeastInCover, IsCoverList};
 
-use sg_apery::{ENTRY_LIMIT, MULTIPLICITY_LIMIT, SPAN_LIMIT, Table, TableFault};
+use sg_apery::{APERY_ENTRY_LIMIT, MULTIPLICITY_LIMIT, SPAN_LIMIT, Table, TableFault};
 use sg_nat::Nats;
 use std::alloc::{AllocError, Global};
 
 /// Whether a number lies in the cover of `h`: it is a member, or it is past half of `h` while `h` less it is none.
 pub(crate) fn is_in_cover(table: &Table, h: i64, x: u64) -> bool
     requires natural { pos 0 ≤ℤ h }
-    requires high { h ≤ℤ pos (MULTIPLICITY_LIMIT * ENTRY_LIMIT) }
-    requires small { x ≤ MULTIPLICITY_LIMIT * ENTRY_LIMIT }
+    requires high { h ≤ℤ pos APERY_ENTRY_LIMIT }
+    requires small { x ≤ APERY_ENTRY_LIMIT }
     ensures { IsTrue result ↔ IsInCover table.now h x }
 {
     let number = x as i64;
@@ -27,8 +27,8 @@ pub(crate) fn is_in_cover(table: &Table, h: i64, x: u64) -> bool
 /// Whether a number less the multiplicity lies in the cover.
 fn has_lesser(table: &Table, h: i64, x: u64) -> bool
     requires natural { pos 0 ≤ℤ h }
-    requires high { h ≤ℤ pos (MULTIPLICITY_LIMIT * ENTRY_LIMIT) }
-    requires small { x ≤ MULTIPLICITY_LIMIT * ENTRY_LIMIT }
+    requires high { h ≤ℤ pos APERY_ENTRY_LIMIT }
+    requires small { x ≤ APERY_ENTRY_LIMIT }
     ensures { IsTrue result ↔ HasLesser table.now h x }
 {
     let multiplicity = table.multiplicity();
@@ -41,8 +41,8 @@ fn has_lesser(table: &Table, h: i64, x: u64) -> bool
 /// The least number of the cover in the residue class of one of its numbers, modulo the multiplicity.
 fn least_in_cover(table: &Table, h: i64, from: u64) -> u64
     requires natural { pos 0 ≤ℤ h }
-    requires high { h ≤ℤ pos (MULTIPLICITY_LIMIT * ENTRY_LIMIT) }
-    requires small { from ≤ MULTIPLICITY_LIMIT * ENTRY_LIMIT }
+    requires high { h ≤ℤ pos APERY_ENTRY_LIMIT }
+    requires small { from ≤ APERY_ENTRY_LIMIT }
     requires covered { IsInCover table.now h from }
     ensures { IsLeastInCover table.now h from result }
 {
@@ -57,7 +57,7 @@ fn least_in_cover(table: &Table, h: i64, from: u64) -> u64
 /// The least number of the cover in each residue class modulo the multiplicity.
 fn cover_list(alloc: Global, table: &Table, h: i64) -> Result<Vec<u64>, AllocError>
     requires natural { pos 0 ≤ℤ h }
-    requires high { h ≤ℤ pos (MULTIPLICITY_LIMIT * ENTRY_LIMIT) }
+    requires high { h ≤ℤ pos APERY_ENTRY_LIMIT }
     ensures list { IfOk result (λ list. IsCoverList table.now h (slice_index table.now 0) list.items) }
     ensures not_empty { IfOk result (λ list. 0 < length list.items) }
     ensures short { IfOk result (λ list. length list.items ≤ MULTIPLICITY_LIMIT) }
@@ -74,7 +74,7 @@ fn cover_list(alloc: Global, table: &Table, h: i64) -> Result<Vec<u64>, AllocErr
 /// irreducible (Rosales and Garcia-Sanchez).
 pub fn cover(alloc: Global, table: &Table, h: i64) -> Result<Nats, AllocError>
     requires natural { pos 0 ≤ℤ h }
-    requires high { h ≤ℤ pos (MULTIPLICITY_LIMIT * ENTRY_LIMIT) }
+    requires high { h ≤ℤ pos APERY_ENTRY_LIMIT }
     requires span { (s : ℕ) × IsSpan table.now s × (s ≤ SPAN_LIMIT) }
     ensures { IfOk result (Generates (IsInCover table.now h)) }
 {

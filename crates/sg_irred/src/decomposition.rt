@@ -10,7 +10,7 @@ ghost use Rattle.sg_apery.specs.Fit.{IsSpan};
 ghost use Rattle.sg_irred.specs.Cover.{AreNatural};
 
 use crate::cover_of::{cover, is_in_cover};
-use sg_apery::{ENTRY_LIMIT, MULTIPLICITY_LIMIT, SPAN_LIMIT, Table};
+use sg_apery::{APERY_ENTRY_LIMIT, SPAN_LIMIT, Table};
 use sg_nat::{Ints, Rows};
 use std::alloc::{AllocError, Global};
 
@@ -18,7 +18,7 @@ use std::alloc::{AllocError, Global};
 fn is_in_each_cover(table: &Table, given: &[i64], h: i64) -> bool
     requires given { AreNatural given.now }
     requires natural { pos 0 ≤ℤ h }
-    requires high { h ≤ℤ pos (MULTIPLICITY_LIMIT * ENTRY_LIMIT) }
+    requires high { h ≤ℤ pos APERY_ENTRY_LIMIT }
     ensures { IsTrue result ↔ IsInEachCover table.now given.now h }
 {
     for k in given {

@@ -8,14 +8,14 @@ use Rattle.sg_defs.proofs.MembershipLemmas.{member-entry}
 use Rattle.sg_apery.specs.Fit.{IsFit}
 use Rattle.sg_apery.specs.Generators.{AreAccepted, AreRefused}
 use Rattle.sg_apery.specs.declared.fault.TableFault.TheVariants as table
-use Rattle.sg_apery.specs.declared.limits.TheConstants.{ENTRY_LIMIT, MULTIPLICITY_LIMIT}
+use Rattle.sg_apery.specs.declared.limits.TheConstants.{GENERATOR_LIMIT, MULTIPLICITY_LIMIT}
 use Rattle.sg_makers.specs.Words.{AreSmall, ArePositive, naturals, Generate}
 use Rattle.sg_makers.proofs.Serving.{Serves}
 
 -- entries that are small and positive are small naturals
-small_natural : (zs : List ℤ) → AreSmall zs → All (λ z. pos 1 ≤ℤ z) zs → (k : ℕ) → k < length (naturals zs) → ENTRY_LIMIT ≤ slice_index (naturals zs) k → ⊥
+small_natural : (zs : List ℤ) → AreSmall zs → All (λ z. pos 1 ≤ℤ z) zs → (k : ℕ) → k < length (naturals zs) → GENERATOR_LIMIT ≤ slice_index (naturals zs) k → ⊥
 small_natural [] small positive k within large = omega arith
-small_natural (pos n ∷ zs) small positive zero within large = let below : pos n <ℤ pos ENTRY_LIMIT = small 0 (pos 0) (omega arith) in omega (arith, ints, below)
+small_natural (pos n ∷ zs) small positive zero within large = let below : pos n <ℤ pos GENERATOR_LIMIT = small 0 (pos 0) (omega arith) in omega (arith, ints, below)
 small_natural (negsuc n ∷ zs) small positive zero within large = let from : pos 1 ≤ℤ negsuc n = positive 0 (pos 0) (omega arith) in omega (arith, ints, from)
 small_natural (z ∷ zs) small positive (suc k) within large = small_natural zs (λ i d h. small (suc i) d (omega arith)) (λ i d h. positive (suc i) d (omega arith)) k (omega arith) large
 

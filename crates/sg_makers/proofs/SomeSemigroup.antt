@@ -8,7 +8,7 @@ use Rattle.sg_apery.specs.Classes.{IsAboveEntry, IsKunz}
 use Rattle.sg_apery.specs.Conditions.{IsInBoth, IsInQuotient, IsClosedSet}
 use Rattle.sg_apery.specs.Fundamental.{DividesNone}
 use Rattle.sg_apery.specs.Modular.{IsModular, IsProportional}
-use Rattle.sg_apery.specs.declared.limits.TheConstants.{ENTRY_LIMIT, FUNDAMENTAL_GAP_LIMIT, MODULUS_LIMIT}
+use Rattle.sg_apery.specs.declared.limits.TheConstants.{GENERATOR_LIMIT, FUNDAMENTAL_GAP_LIMIT, MODULUS_LIMIT}
 use Rattle.sg_exist.specs.Decided.{Decided}
 use Rattle.sg_exist.proofs.Decisions.{decided-not, decided-and, decided-or, decided-same, decided-all, decided-eq_z, decided-lt_z, decided-le_z, some-below}
 use Rattle.sg_exist.proofs.SemigroupDecisions.{semigroup-decided}
@@ -45,7 +45,7 @@ generate-decided zs = decided-and (ArePositive zs) (IsNumericalSemigroup (natura
 
 pub semigroup_some : (zs : List ℤ) → SomeValue (semigroup_of zs)
 semigroup_some zs = generates_some (¬ AreSmall zs) (¬ Generate zs) (IsMember (naturals zs))
-    (decided-not (AreSmall zs) (decided-all (λ z. z <ℤ pos ENTRY_LIMIT) (λ z. decided-lt_z z (pos ENTRY_LIMIT)) zs))
+    (decided-not (AreSmall zs) (decided-all (λ z. z <ℤ pos GENERATOR_LIMIT) (λ z. decided-lt_z z (pos GENERATOR_LIMIT)) zs))
     (λ a. decided-not (Generate zs) (generate-decided zs))
     (λ a b. let g = stable (Generate zs) (generate-decided zs) b in minimal_list-exists (IsMember (naturals zs)) (numerical-set (naturals zs) g.1))
 

@@ -4,11 +4,11 @@ use Rattle.sg_defs.specs.Membership.{IsNumericalSemigroup, Generates}
 use Rattle.sg_apery.specs.Classes.{IsKunz}
 use Rattle.sg_apery.specs.Conditions.{IsClosedSet}
 use Rattle.sg_apery.specs.Fundamental.{DividesNone}
-use Rattle.sg_apery.specs.declared.limits.TheConstants.{ENTRY_LIMIT, FUNDAMENTAL_GAP_LIMIT}
+use Rattle.sg_apery.specs.declared.limits.TheConstants.{GENERATOR_LIMIT, FUNDAMENTAL_GAP_LIMIT}
 
 -- all entries are below the limit of generators
 abbrev pub AreSmall : List ℤ → Type 0
-AreSmall zs = All (λ z. z <ℤ pos ENTRY_LIMIT) zs
+AreSmall zs = All (λ z. z <ℤ pos GENERATOR_LIMIT) zs
 
 -- the entries without their signs
 abbrev pub naturals : List ℤ → List ℕ

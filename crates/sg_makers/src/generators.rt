@@ -11,7 +11,7 @@ ghost use Rattle.sg_rows.specs.Replies.{Replies};
 
 use crate::entries::{are_positive, naturals_of};
 use crate::settling::settled;
-use sg_apery::{ENTRY_LIMIT, Table};
+use sg_apery::{GENERATOR_LIMIT, Table};
 use sg_nat::Ints;
 use sg_rows::{CallFault, Fault, entries_of, integers_of};
 use sg_store::Store;
@@ -42,7 +42,7 @@ fn spread_of(alloc: Global, args: &[Value]) -> Result<Option<Ints>, AllocError>
 fn are_small(zs: &[i64]) -> bool
     ensures { IsTrue result ↔ AreSmall zs.now }
 {
-    zs.iter().all(|z| *z < ENTRY_LIMIT as i64)
+    zs.iter().all(|z| *z < GENERATOR_LIMIT as i64)
 }
 
 /// The semigroup that these generate.

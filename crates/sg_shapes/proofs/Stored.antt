@@ -5,7 +5,7 @@ use Rattle.std.specs.List.{AllZip}
 use Rattle.std.proofs.lemmas.Bool.{cases_lt}
 use Rattle.sg_defs.specs.Membership.{IsMember, IsNumericalSemigroup, IsMinimal, IsMultiplicity, Holds, Generates}
 use Rattle.sg_defs.specs.Decomposition.{IsInCover, IsDecomposition}
-use Rattle.sg_apery.specs.declared.limits.TheConstants.{ENTRY_LIMIT, MULTIPLICITY_LIMIT, SPAN_LIMIT}
+use Rattle.sg_apery.specs.declared.limits.TheConstants.{GENERATOR_LIMIT, MULTIPLICITY_LIMIT, SPAN_LIMIT}
 use Rattle.sg_closure.proofs.MultiplicityLemmas.{first-multiplicity, no_sum}
 use Rattle.sg_closure.proofs.FitLemmas.{span-above}
 use Rattle.sg_irred.proofs.CoverLemmas.{cover-member}
@@ -25,13 +25,13 @@ module _ (G M : List ℕ) (own : IsStored G) (short : IsShort G) (s : IsNumerica
       let least = (first-multiplicity M s minimal).least (get_or G 0 0) first.positive (holds (get_or G 0 0) first.member) in
       omega (arith, least, own.fit.multiplicity)
 
-  small : (k : ℕ) → k < length M → get_or M k 0 < ENTRY_LIMIT
-  small k l = elim (cases_lt (get_or M k 0) ENTRY_LIMIT) [
+  small : (k : ℕ) → k < length M → get_or M k 0 < GENERATOR_LIMIT
+  small k l = elim (cases_lt (get_or M k 0) GENERATOR_LIMIT) [
     | inl less ↦ less
     | inr more ↦
         let span : short.0 ≤ SPAN_LIMIT = short.2 in
         let low : get_or G 0 0 ≤ MULTIPLICITY_LIMIT = own.fit.multiplicity in
-        let high : get_or G (length G - 1) 0 < ENTRY_LIMIT = own.fit.small (length G - 1) (let some = own.semigroup.not_empty in omega (arith, some)) in
+        let high : get_or G (length G - 1) 0 < GENERATOR_LIMIT = own.fit.small (length G - 1) (let some = own.semigroup.not_empty in omega (arith, some)) in
         let rest : IsMember G (get_or M k 0 - get_or G 0 0) = span-above G short.0 (get_or M k 0 - get_or G 0 0) short.1 (omega (arith, more, span, low)) in
         absurd (no_sum M minimal k l (get_or G 0 0) (get_or M k 0 - get_or G 0 0) first.positive (omega (arith, more, low))
         (holds (get_or G 0 0) first.member) (holds (get_or M k 0 - get_or G 0 0) rest) (omega (arith, more, low)))

@@ -1,4 +1,4 @@
-use Rattle.std.proofs.Common.{◌≡◌, ℕ, ◌^◌, ◌↔◌, List, refl, sym, subst}
+use Rattle.std.proofs.Common.{◌≡◌, ℕ, ◌↔◌, List, refl, sym, subst}
 use Rattle.std.proofs.lemmas.Result.{IfOk-weaker, IfErr-weaker}
 use Rattle.sg_defs.specs.Membership.{Generates}
 use Rattle.sg_apery.specs.Classes.{IsAboveEntry, IsKunz}
@@ -6,6 +6,7 @@ use Rattle.sg_apery.specs.Conditions.{IsInBoth}
 use Rattle.sg_apery.specs.Fit.{IsSizeFault}
 use Rattle.sg_apery.proofs.DerivedLemmas.{table-long, table-member, both-too_large, generates-iff, size_fault-iff}
 use Rattle.sg_apery.proofs.derived.intersect.Goals as goal
+use Rattle.sg_apery.specs.declared.limits.TheConstants.{APERY_ENTRY_LIMIT}
 
 pub common_member-requires-clause-first : goal.common_member-requires-clause-first
 common_member-requires-clause-first c = table-long c.args.a.now c.apery.result.now c.apery.ensures.semigroup c.apery.ensures.entries
@@ -17,7 +18,7 @@ pub returns-in_default-clause-refused : goal.returns-in_default-clause-refused
 returns-in_default-clause-refused c =
     let s = c.apery.ensures in
     let t = c.apery-2.ensures in
-    both-too_large c.args.a.now c.args.b.now c.apery.result.now c.apery-2.result.now (2 ^ 52) s.semigroup t.semigroup s.entries t.entries s.apery t.apery s.small t.small (c.in_default.ensures.none refl)
+    both-too_large c.args.a.now c.args.b.now c.apery.result.now c.apery-2.result.now APERY_ENTRY_LIMIT s.semigroup t.semigroup s.entries t.entries s.apery t.apery s.small t.small (c.in_default.ensures.none refl)
 
 pub common_list-requires-clause-first : goal.common_list-requires-clause-first
 common_list-requires-clause-first c =

@@ -12,9 +12,9 @@ pub returns-then-multiplicity-gt-MULTIPLICITY_LIMIT-clause-refused : goal.return
 returns-then-multiplicity-gt-MULTIPLICITY_LIMIT-clause-refused c =
     small-too_large_least c.args.list.now c.requires.list c.least_positive-multiplicity.result c.requires.closed c.if-multiplicity-gt-MULTIPLICITY_LIMIT.true c.least_positive-multiplicity.ensures.least
 
-pub returns-then-conductor-clause-refused : goal.returns-then-conductor-clause-refused
-returns-then-conductor-clause-refused c =
-    small-too_large_gap c.args.list.now c.requires.list c.requires.closed c.if-conductor.true c.requires.gap
+pub returns-then-conductor-gt-APERY_ENTRY_LIMIT-clause-refused : goal.returns-then-conductor-gt-APERY_ENTRY_LIMIT-clause-refused
+returns-then-conductor-gt-APERY_ENTRY_LIMIT-clause-refused c =
+    small-too_large_gap c.args.list.now c.requires.list c.requires.closed c.if-conductor-gt-APERY_ENTRY_LIMIT.true c.requires.gap
 
 pub from_kunz-requires : goal.from_kunz-requires
 from_kunz-requires c = subst IsKunz (sym c.deref.ensures.value) c.in_ok-table.ensures.kunz
