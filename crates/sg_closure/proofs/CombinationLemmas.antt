@@ -1,11 +1,11 @@
 -- Integer combinations: what divides the numbers divides them, and a member less a multiple of a number is one.
-use Rattle.std.proofs.Common.{◌≡◌, ℕ, zero, suc, ◌+◌, ◌-◌, ◌*◌, ◌<◌, ◌≤◌, List, [], ◌∷◌, length, get_or, map, refl, sym, ap, subst, ◌∙◌, arith}
+use Rattle.std.proofs.Common.{◌≡◌, ℕ, zero, suc, ◌+◌, ◌-◌, ◌*◌, ◌<◌, List, [], ◌∷◌, length, get_or, map, refl, ap, subst, ◌∙◌, arith}
 use Rattle.std.specs.Prelude.{ℤ, pos, negsuc, ◌+ℤ◌, ◌-ℤ◌, ◌*ℤ◌}
 use Rattle.std.specs.Int.{◌∣◌}
 use Rattle.std.proofs.lemmas.Int.{ints}
 use Rattle.std.proofs.lemmas.List.{length-map}
 use Rattle.std.proofs.lemmas.Nat.Gcd.{dvd-zero}
-use Rattle.std.proofs.Math.Nat.{dvd-add, dvd-sub, dvd-mul_left}
+use Rattle.std.proofs.Math.Nat.{dvd-add, dvd-sub}
 use Rattle.std.proofs.Math.IntN.{pos-*ℤ-pos, negsuc-*ℤ-pos}
 use Rattle.sg_defs.specs.Vectors.{value_of}
 use Rattle.sg_defs.specs.Membership.{IsMember}

@@ -1,9 +1,7 @@
 -- The multiplicity and its differences with the other generators: what they generate, moved by the multiplicity, is the
 -- closure of maximal embedding dimension.
-use Rattle.std.proofs.Common.{◌≡◌, ℕ, zero, suc, ◌+◌, ◌-◌, ◌*◌, ◌^◌, ◌<◌, ◌≤◌, ◌↔◌, Bool, List, length, get_or, refl, sym, ap, subst, ◌∙◌, inl, inr, arith}
-use Rattle.std.specs.Prelude.{◌⊎◌, All, Contains}
+use Rattle.std.proofs.Common.{◌≡◌, ℕ, ◌+◌, ◌-◌, ◌<◌, ◌≤◌, ◌↔◌, Bool, List, length, get_or, refl, sym, subst, ◌∙◌, inl, inr, arith}
 use Rattle.std.specs.Int.{◌∣◌}
-use Rattle.std.proofs.lemmas.Bool.{cases_lt}
 use Rattle.std.proofs.lemmas.List.Elements.{All-from_get_or}
 use Rattle.std.proofs.Math.Nat.{dvd-add}
 use Rattle.sg_defs.specs.Membership.{IsMember, IsNumericalSemigroup, IsMinimal, IsMultiplicity, Generates, Holds}
@@ -11,15 +9,15 @@ use Rattle.sg_defs.specs.Closures.{IsMed, IsMedClosure}
 use Rattle.sg_defs.proofs.MembershipLemmas.{member-zero, member-add, member-entry, member-induction}
 use Rattle.std.proofs.lemmas.Int.{ints}
 use Rattle.sg_apery.specs.Fit.{IsFit, IsSpan}
-use Rattle.sg_apery.specs.Generators.{AreSmall, HasLarge, AreRefused}
+use Rattle.sg_apery.specs.Generators.{AreRefused}
 use Rattle.sg_apery.specs.declared.fault.TableFault.TheVariants.{BadArgument, TooLarge}
 use Rattle.sg_apery.proofs.GeneratorLemmas.{holds-from_entries}
-use Rattle.sg_apery.proofs.EntryLemmas.{first-least}
 use Rattle.sg_closure.specs.Marks.{IsIn, IsAbove}
-use Rattle.sg_closure.specs.Differences.{AreDifferences, IsDifference, IsShifted}
+use Rattle.sg_closure.specs.Differences.{AreDifferences, IsShifted}
 use Rattle.sg_closure.proofs.FitLemmas.{span-above}
 use Rattle.sg_closure.proofs.GeneratorMarkLemmas.{frobenius-low}
-use Rattle.sg_closure.proofs.MultiplicityLemmas.{first-multiplicity, one-multiplicity}
+use Rattle.sg_defs.proofs.MinimalLemmas.{first-multiplicity}
+use Rattle.sg_defs.proofs.OneLemmas.{one-multiplicity}
 
 module _ (G D : List ℕ) (s : IsNumericalSemigroup G) (a : AreDifferences G D) where
   positive : 0 < get_or G 0 0

@@ -1,14 +1,13 @@
 -- A numerical semigroup above one with a short span is within the limits.
-use Rattle.std.proofs.Common.{◌≡◌, ℕ, zero, suc, ◌+◌, ◌-◌, ◌*◌, ◌^◌, ◌<◌, ◌≤◌, ◌↔◌, List, length, get_or, sym, subst, ◌∙◌, inl, inr, arith}
-use Rattle.std.specs.Prelude.{◌⊎◌, ℤ, pos, negsuc, ◌+ℤ◌, ◌-ℤ◌, ◌<ℤ◌}
+use Rattle.std.proofs.Common.{ℕ, ◌+◌, ◌-◌, ◌^◌, ◌<◌, ◌≤◌, List, length, get_or, inl, inr, arith}
+use Rattle.std.specs.Prelude.{pos}
 use Rattle.std.proofs.lemmas.Int.{ints}
 use Rattle.std.proofs.lemmas.Bool.{cases_lt}
-use Rattle.sg_defs.specs.Membership.{IsMember, IsIntegerMember, IsNumericalSemigroup, Generates}
-use Rattle.sg_defs.specs.Invariants.{IsFrobenius}
+use Rattle.sg_defs.specs.Membership.{IsMember, IsNumericalSemigroup, Generates}
 use Rattle.sg_apery.specs.Fit.{IsPastLimits, IsTooLarge, IsSpan}
 use Rattle.sg_defs.proofs.MembershipLemmas.{member-entry}
 use Rattle.sg_closure.specs.Marks.{IsShort}
-use Rattle.sg_closure.proofs.MultiplicityLemmas.{first-multiplicity, no_sum}
+use Rattle.sg_defs.proofs.MinimalLemmas.{first-multiplicity, no_sum}
 
 -- what is greater than the span less the multiplicity is a member
 pub span-above : (G : List ℕ) (s n : ℕ) → IsSpan G s → s < n + get_or G 0 0 + get_or G (length G - 1) 0 → IsMember G n

@@ -1,10 +1,10 @@
 -- The marks of 0 and the generators on the numbers up to the span.
-use Rattle.std.proofs.Common.{◌≡◌, ℕ, zero, suc, ◌+◌, ◌-◌, ◌^◌, ◌<◌, ◌≤◌, ◌↔◌, Bool, false, List, length, get_or, replicate, sym, ap, subst, ◌∙◌, inl, inr, arith}
-use Rattle.std.specs.Prelude.{◌⊎◌, ℤ, pos, negsuc, ◌+ℤ◌, ◌<ℤ◌, Contains}
+use Rattle.std.proofs.Common.{◌≡◌, ℕ, zero, suc, ◌+◌, ◌-◌, ◌^◌, ◌<◌, ◌≤◌, ◌↔◌, Bool, false, List, length, get_or, replicate, ap, inl, inr, arith}
+use Rattle.std.specs.Prelude.{◌⊎◌, ℤ, pos, negsuc, ◌<ℤ◌, Contains}
 use Rattle.std.proofs.lemmas.Int.{ints}
 use Rattle.std.proofs.lemmas.Bool.{cases_eq}
 use Rattle.std.proofs.lemmas.List.Kept.{AllPairs-from_increasing}
-use Rattle.sg_defs.specs.Membership.{IsMember, IsNumericalSemigroup, IsMinimal}
+use Rattle.sg_defs.specs.Membership.{IsNumericalSemigroup, IsMinimal}
 use Rattle.sg_defs.specs.Invariants.{IsFrobenius}
 use Rattle.sg_apery.specs.Fit.{IsSpan}
 use Rattle.sg_apery.proofs.GeneratorLemmas.{contains-place}

@@ -1,5 +1,4 @@
 pub mod CoverLemmas
-pub mod MultiplicityLemmas
 pub mod MedLemmas
 pub mod MarkLemmas
 pub mod FitLemmas
@@ -12,3 +11,4 @@ pub mod ReachedLemmas
 pub mod CombinationLemmas
 pub mod SaturationLemmas
 pub mod SaturatedLemmas
+pub mod MultiplicityLemmas

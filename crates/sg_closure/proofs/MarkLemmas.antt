@@ -1,16 +1,14 @@
 -- Sets of naturals by marks.
-use Rattle.std.proofs.Common.{◌≡◌, ◌≢◌, ℕ, zero, suc, ◌+◌, ◌-◌, ◌*◌, ◌%◌, ◌<◌, ◌≤◌, ◌↔◌, Bool, true, false, List, [], ◌∷◌, ◌++◌, length, get_or, set, replicate, refl, sym, ap, subst, ◌∙◌, inl, inr, arith}
+use Rattle.std.proofs.Common.{◌≡◌, ◌≢◌, ℕ, zero, suc, ◌+◌, ◌*◌, ◌%◌, ◌<◌, ◌≤◌, ◌↔◌, Bool, true, false, List, [], ◌∷◌, ◌++◌, length, get_or, set, replicate, refl, sym, ap, subst, ◌∙◌, inl, inr, arith}
 use Rattle.std.specs.Prelude.{◌⊎◌, IsTrue}
 use Rattle.std.proofs.lemmas.Bool.{cases_lt, cases_eq, both_ways}
 use Rattle.std.proofs.lemmas.Nat.{mod_below}
 use Rattle.std.proofs.lemmas.List.{get_or_default, get_or_past, get_or-replicate, get_or_append_left, get_or_push, get_or-set_same, get_or-set_other}
-use Rattle.std.proofs.Math.Nat.{mod_self, add-mod_right, mod-eq_of_lt}
-use Rattle.sg_defs.specs.Membership.{IsMember, IsNumericalSemigroup, IsMultiplicity}
-use Rattle.sg_defs.proofs.MembershipLemmas.{member-zero, member-entry}
+use Rattle.std.proofs.Math.Nat.{mod-eq_of_lt}
 use Rattle.sg_apery.specs.Classes.{IsAboveEntry, IsClassList, IsKunz}
 use Rattle.sg_apery.proofs.AperyLemmas.{congruent-split}
 use Rattle.sg_apery.proofs.DerivedLemmas.{kunz-from_closed}
-use Rattle.sg_closure.specs.Marks.{IsIn, IsLeastIn, AreLeastIn, IsAbove}
+use Rattle.sg_closure.specs.Marks.{IsIn, IsLeastIn, AreLeastIn}
 
 -- a test of a mark, read at another default
 pub in-true : (marks : List Bool) (n : ℕ) → n < length marks → get_or marks n false ≡ true → IsIn marks n

@@ -1,6 +1,5 @@
 -- There are as many minimal generators as the multiplicity exactly where the embedding dimension is maximal.
-use Rattle.std.proofs.Common.{◌≡◌, ℕ, zero, suc, ◌+◌, ◌-◌, ◌*◌, ◌%◌, ◌<◌, ◌≤◌, ◌↔◌, List, length, get_or, sym, ap, subst, ◌∙◌, inl, inr, arith}
-use Rattle.std.specs.Prelude.{◌⊎◌}
+use Rattle.std.proofs.Common.{◌≡◌, ℕ, zero, suc, ◌+◌, ◌-◌, ◌*◌, ◌%◌, ◌<◌, ◌↔◌, List, length, get_or, sym, ap, subst, ◌∙◌, inl, inr, arith}
 use Rattle.std.proofs.lemmas.Bool.{cases_lt, cases_eq}
 use Rattle.std.proofs.lemmas.Nat.{mod_below}
 use Rattle.std.proofs.lemmas.List.Kept.{AllPairs-from_increasing}
@@ -12,7 +11,8 @@ use Rattle.sg_defs.proofs.MembershipLemmas.{member-add, member-entry, member-tim
 use Rattle.sg_apery.proofs.AperyLemmas.{congruent-split}
 use Rattle.sg_apery.proofs.GeneratorLemmas.{member-split}
 use Rattle.sg_closure.proofs.CoverLemmas.{IsShuffle, shuffle-covers, different-few}
-use Rattle.sg_closure.proofs.MultiplicityLemmas.{one-multiplicity, first-multiplicity, no_sum}
+use Rattle.sg_defs.proofs.MinimalLemmas.{first-multiplicity, no_sum}
+use Rattle.sg_defs.proofs.OneLemmas.{one-multiplicity}
 
 module _ (G t : List ℕ) (m : ℕ) (s : IsNumericalSemigroup G) (minimal : IsMinimal G) (multiplicity : IsMultiplicity G m) (apery : IsApery G m t) where
   -- a minimal generator is no greater member's sum with a multiple of the multiplicity

@@ -1,7 +1,7 @@
 -- The numbers that are 0, or at least the multiplicity and divided by each common divisor of the generators up to them,
 -- are the saturated closure.
-use Rattle.std.proofs.Common.{◌≡◌, ℕ, zero, suc, ◌+◌, ◌-◌, ◌*◌, ◌/◌, ◌<◌, ◌≤◌, ◌↔◌, Bool, List, [], ◌∷◌, length, get_or, take, sym, ap, subst, ◌∙◌, inl, inr, arith}
-use Rattle.std.specs.Prelude.{◌⊎◌, ℤ, pos, Contains, All}
+use Rattle.std.proofs.Common.{◌≡◌, ℕ, zero, suc, ◌+◌, ◌-◌, ◌*◌, ◌/◌, ◌<◌, ◌≤◌, ◌↔◌, Bool, List, ◌∷◌, length, get_or, take, sym, ap, subst, ◌∙◌, inl, inr, arith}
+use Rattle.std.specs.Prelude.{ℤ, pos, Contains}
 use Rattle.std.specs.Int.{◌∣◌}
 use Rattle.std.proofs.lemmas.Bool.{cases_lt}
 use Rattle.std.proofs.lemmas.List.{get_or-take, length-take-le}
@@ -11,7 +11,7 @@ use Rattle.std.proofs.lemmas.Nat.Gcd.{dvd-zero, mod-eq-zero_of_dvd}
 use Rattle.std.proofs.Math.Nat.{dvd-add, dvd-sub, mod-add-div}
 use Rattle.sg_defs.specs.Membership.{IsMember, IsNumericalSemigroup, IsMinimal, Generates, Holds}
 use Rattle.sg_defs.specs.Closures.{IsSaturated, IsSaturatedClosure, integer_value_of}
-use Rattle.sg_defs.proofs.MembershipLemmas.{member-zero, member-add, member-entry, member-induction}
+use Rattle.sg_defs.proofs.MembershipLemmas.{member-zero, member-entry, member-induction}
 use Rattle.sg_apery.proofs.ResidueLemmas.{IsReached}
 use Rattle.sg_apery.proofs.EntryLemmas.{first-least}
 use Rattle.sg_apery.proofs.GeneratorLemmas.{contains-place, place-contains, member-divides}

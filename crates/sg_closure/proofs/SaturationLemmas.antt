@@ -1,6 +1,6 @@
 -- The marks of the saturated closure, by the greatest common divisors of the generators up to each number.
-use Rattle.std.proofs.Common.{◌≡◌, ◌≢◌, ℕ, zero, suc, ◌+◌, ◌%◌, ◌<◌, ◌≤◌, ◌↔◌, Bool, List, length, get_or, set, sym, subst, ◌∙◌, inl, inr, eq-eqb, eqb-true, arith}
-use Rattle.std.specs.Prelude.{◌⊎◌, Contains, nat_eq}
+use Rattle.std.proofs.Common.{◌≡◌, ℕ, ◌+◌, ◌%◌, ◌<◌, ◌≤◌, ◌↔◌, Bool, List, length, get_or, set, sym, subst, ◌∙◌, inl, inr, eq-eqb, eqb-true, arith}
+use Rattle.std.specs.Prelude.{Contains, nat_eq}
 use Rattle.std.proofs.Common.{true}
 use Rattle.std.specs.Int.{◌∣◌, IsGcd}
 use Rattle.std.proofs.lemmas.Bool.{cases_lt, cases_eq}

@@ -3,7 +3,7 @@ use Rattle.std.proofs.Common.{◌≡◌, ℕ, ◌↔◌, Bool, List, sym, subst,
 use Rattle.std.specs.Prelude.{IsTrue}
 use Rattle.std.specs.Str.{bytes_eq}
 use Rattle.std.proofs.lemmas.Slice.Eq.{bytes_eq-Decides}
-use Rattle.sg_defs.specs.Membership.{IsMember, IsNumericalSemigroup, IsMinimal, Generates}
+use Rattle.sg_defs.specs.Membership.{IsMember, IsNumericalSemigroup, IsMinimal}
 use Rattle.sg_defs.specs.Closures.{IsLeast}
 use Rattle.sg_apery.proofs.OneListLemmas.{one-minimal_list}
 

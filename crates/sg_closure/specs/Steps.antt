@@ -1,5 +1,5 @@
 -- Steps between neighbours of a set.
-use Rattle.std.specs.Prelude.{◌≡◌, ℕ, ◌+◌, ◌-◌, ◌<◌, Bool, List}
+use Rattle.std.specs.Prelude.{ℕ, ◌+◌, ◌-◌, ◌<◌, Bool, List}
 use Rattle.sg_closure.specs.Marks.{IsIn}
 
 -- with two neighbours, y after z, the set has the number as far after y

@@ -15,7 +15,7 @@ use Rattle.sg_irred.proofs.IrredundantLemmas.{special-natural}
 use Rattle.sg_irred.proofs.PlaceLemmas.{contains-reversed}
 use Rattle.sg_exist.specs.Decided.{Decided, IsNumericalSet}
 use Rattle.sg_exist.proofs.Decisions.{decided-not, decided-and, decided-or, decided-same, decided-lt_z, decided-all}
-use Rattle.sg_exist.proofs.MemberDecisions.{member-decided}
+use Rattle.sg_defs.proofs.DecidedLemmas.{member-decided}
 use Rattle.sg_exist.proofs.BoundLemmas.{members-from, numerical-set, minimal_list-exists}
 use Rattle.sg_exist.proofs.InvariantsExist.{integer_member-decided, special_gaps-exist}
 

@@ -12,7 +12,7 @@ use Rattle.sg_closure.specs.Saturation.{IsInSaturation}
 use Rattle.sg_closure.proofs.SaturatedLemmas.{saturation-sums, saturation-holds, saturation-saturated, saturation-least}
 use Rattle.sg_exist.specs.Decided.{Decided, IsNumericalSet}
 use Rattle.sg_exist.proofs.Decisions.{decided-implies, decided-same, decided-eq, decided-le, decided-divides, each-below}
-use Rattle.sg_exist.proofs.MemberDecisions.{member-decided}
+use Rattle.sg_defs.proofs.DecidedLemmas.{member-decided}
 use Rattle.sg_exist.proofs.BoundLemmas.{members-from, numerical-set, minimal_list-exists}
 
 -- d divides the generators up to x

@@ -6,7 +6,7 @@ use Rattle.sg_defs.specs.Symmetry.{IsSymmetric, IsPseudoSymmetric, IsIrreducible
 use Rattle.sg_irred.proofs.TestLemmas.{symmetric-by_conductor, pseudo_symmetric-by_conductor, irreducible-by_conductor}
 use Rattle.sg_exist.specs.Decided.{Decided}
 use Rattle.sg_exist.proofs.Decisions.{decided-or, decided-same, decided-eq}
-use Rattle.sg_exist.proofs.MemberDecisions.{member-decided}
+use Rattle.sg_defs.proofs.DecidedLemmas.{member-decided}
 use Rattle.sg_exist.proofs.InvariantsExist.{conductor-exists, genus-exists}
 
 pub symmetric-decided : (G : List ℕ) → IsNumericalSemigroup G → Decided (IsSymmetric G)

@@ -1,8 +1,9 @@
 -- Members are closed under sums, and every fact that 0 has and that each entry keeps is a fact of all members.
 use Rattle.std.proofs.Common.{◌≡◌, ℕ, zero, suc, ◌+◌, ◌*◌, ◌<◌, List, [], ◌∷◌, length, get_or, replicate, set, sym, subst, ◌∙◌, arith}
+use Rattle.std.specs.Prelude.{ℤ, pos, negsuc, ◌+ℤ◌}
 use Rattle.std.proofs.lemmas.List.{length-replicate, length-set}
 use Rattle.sg_defs.specs.Vectors.{value_of, plus}
-use Rattle.sg_defs.specs.Membership.{IsMember}
+use Rattle.sg_defs.specs.Membership.{IsMember, IsIntegerMember, Holds}
 use Rattle.sg_defs.proofs.VectorLemmas.{length-plus, value_of-plus, value_of-zeros, value_of-set}
 
 pub member-zero : (G : List ℕ) → IsMember G 0
@@ -56,3 +57,14 @@ pub member-induction : (P : ℕ → Type 0) (G : List ℕ) → P 0 → ((i n : �
 member-induction P G base step n h =
     let e : value_of G h.0 + 0 ≡ n = omega (arith, h.1.value) in
     subst P e (values-keep P G h.0 0 step base)
+
+-- sums of members among the integers
+pub integer-add : (G : List ℕ) (x y : ℤ) → IsIntegerMember G x → IsIntegerMember G y → IsIntegerMember G (x +ℤ y)
+integer-add G (pos a) (pos b) p q = member-add G a b p q
+integer-add G (pos a) (negsuc b) p q = absurd q
+integer-add G (negsuc a) y p q = absurd p
+
+-- members of a semigroup among the integers are members of each that holds it
+pub integer-holds : (H G : List ℕ) → Holds H G → (x : ℤ) → IsIntegerMember G x → IsIntegerMember H x
+integer-holds H G h (pos n) p = h n p
+integer-holds H G h (negsuc n) p = p

@@ -10,7 +10,7 @@ use Rattle.std.proofs.Math.Nat.{dvd-sub_iff_left, eq-zero_of_zero-dvd, mod-add-d
 use Rattle.sg_defs.specs.Membership.{IsMember, Generates, IsNumericalSemigroup}
 use Rattle.sg_defs.proofs.MembershipLemmas.{member-zero, member-add, member-entry, member-times}
 use Rattle.sg_apery.proofs.ExistsLemmas.{generates-exists}
-use Rattle.sg_exist.proofs.MemberDecisions.{member-decided}
+use Rattle.sg_defs.proofs.DecidedLemmas.{member-decided}
 use Rattle.sg_exist.specs.Decided.{IsNumericalSet}
 
 -- two members differ by d

@@ -1,5 +1,5 @@
 -- Whether a semigroup is Arf or of maximal embedding dimension is decided, and the least such above it exists.
-use Rattle.std.proofs.Common.{◌≡◌, ℕ, zero, suc, ◌+◌, ◌-◌, ◌<◌, ◌≤◌, List, ◌∷◌, length, get_or, subst, inl, inr, arith}
+use Rattle.std.proofs.Common.{ℕ, zero, suc, ◌+◌, ◌-◌, ◌<◌, ◌≤◌, List, ◌∷◌, length, get_or, subst, inl, inr, arith}
 use Rattle.std.specs.Prelude.{◌⊎◌}
 use Rattle.std.proofs.lemmas.Bool.{cases_lt}
 use Rattle.sg_defs.specs.Membership.{IsMember, IsNumericalSemigroup, IsMultiplicity}
@@ -9,7 +9,8 @@ use Rattle.sg_defs.proofs.MembershipLemmas.{member-entry}
 use Rattle.sg_apery.proofs.GeneratorLemmas.{member-split}
 use Rattle.sg_exist.specs.Decided.{Decided}
 use Rattle.sg_exist.proofs.Decisions.{decided-not, decided-and, decided-lt, decided-le, some-below}
-use Rattle.sg_exist.proofs.MemberDecisions.{member-decided}
+use Rattle.sg_defs.proofs.OneLemmas.{one-multiplicity}
+use Rattle.sg_defs.proofs.DecidedLemmas.{member-decided}
 use Rattle.sg_exist.proofs.BoundLemmas.{members-from}
 use Rattle.sg_exist.proofs.InvariantsExist.{multiplicity-exists}
 use Rattle.sg_exist.proofs.LeastExists.{least-exists, more-holds}
@@ -91,9 +92,6 @@ med_break-decided K m x y = elim (decided-and (0 < x) (0 < y) (decided-lt 0 x) (
     ]
   ]
 ]
-
-one-multiplicity : (G : List ℕ) (m n : ℕ) → IsMultiplicity G m → IsMultiplicity G n → m ≡ n
-one-multiplicity G m n h k = let a = h.least n k.positive k.member in let b = k.least m h.positive h.member in omega (arith, a, b)
 
 -- it is of maximal embedding dimension, or two members break the rule
 pub med-or_break : (K : List ℕ) (m : ℕ) → IsNumericalSemigroup K → IsMultiplicity K m → IsMed K ⊎ ((x y : ℕ) × IsMedBreak K m x y)

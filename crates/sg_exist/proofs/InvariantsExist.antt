@@ -12,7 +12,7 @@ use Rattle.sg_defs.specs.Membership.{IsMember, IsIntegerMember, IsNumericalSemig
 use Rattle.sg_defs.specs.Invariants.{IsFrobenius, IsConductor, IsGap, IsGenus, AreSmallElements, IsPseudoFrobenius, IsSpecialGap, IsFundamentalGap, IsType}
 use Rattle.sg_defs.proofs.MembershipLemmas.{member-entry}
 use Rattle.sg_apery.proofs.GeneratorLemmas.{each-push}
-use Rattle.sg_exist.proofs.MemberDecisions.{member-decided}
+use Rattle.sg_defs.proofs.DecidedLemmas.{member-decided}
 use Rattle.sg_invar.proofs.GapLemmas.{gap-below_conductor, fundamental-from_three}
 use Rattle.sg_invar.proofs.PseudoFrobeniusLemmas.{pseudo_frobenius-from_generators, pseudo_frobenius-generators, pseudo_frobenius-low, outside-below}
 use Rattle.sg_exist.specs.Decided.{Decided}

@@ -10,7 +10,7 @@ use Rattle.sg_defs.specs.Invariants.{IsGap}
 use Rattle.sg_defs.specs.Closures.{IsLeast}
 use Rattle.sg_defs.proofs.MembershipLemmas.{member-zero, member-entry}
 use Rattle.sg_apery.proofs.GeneratorLemmas.{holds-from_entries}
-use Rattle.sg_exist.proofs.MemberDecisions.{member-decided}
+use Rattle.sg_defs.proofs.DecidedLemmas.{member-decided}
 use Rattle.sg_exist.proofs.BoundLemmas.{members-from}
 
 -- ---- one more generator

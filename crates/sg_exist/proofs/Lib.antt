@@ -1,5 +1,4 @@
 pub mod Decisions
-pub mod MemberDecisions
 pub mod BoundLemmas
 pub mod SemigroupDecisions
 pub mod ListsExist
@@ -8,3 +7,4 @@ pub mod SetsExist
 pub mod LeastExists
 pub mod ClosuresExist
 pub mod SpansExist
+pub mod MemberDecisions

@@ -8,7 +8,7 @@ use Rattle.sg_defs.specs.Membership.{IsMember, Generates, IsNumericalSemigroup, 
 use Rattle.sg_apery.specs.Fit.{IsFit}
 use Rattle.sg_apery.specs.declared.limits.TheConstants.{GENERATOR_LIMIT, MULTIPLICITY_LIMIT}
 use Rattle.sg_apery.proofs.OneListLemmas.{one-minimal_list}
-use Rattle.sg_exist.proofs.MemberDecisions.{member-decided}
+use Rattle.sg_defs.proofs.DecidedLemmas.{member-decided}
 use Rattle.sg_exist.specs.Decided.{Decided}
 use Rattle.sg_exist.proofs.Decisions.{decided-not, decided-implies, decided-same, decided-le, decided-lt, decided-divides, decided-all, each-below}
 

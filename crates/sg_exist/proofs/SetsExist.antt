@@ -6,16 +6,17 @@ use Rattle.std.specs.Int.{◌∣◌}
 use Rattle.std.proofs.lemmas.Bool.{cases_lt}
 use Rattle.std.proofs.lemmas.Nat.{mod_below}
 use Rattle.std.proofs.lemmas.Nat.Gcd.{le_of_dvd}
-use Rattle.std.proofs.Math.Nat.{mul-le-mul_left, mod-add-mod}
+use Rattle.std.proofs.Math.Nat.{mul-le-mul_left}
 use Rattle.sg_defs.specs.Membership.{IsMember, Generates, IsNumericalSemigroup}
 use Rattle.sg_defs.proofs.MembershipLemmas.{member-zero, member-add}
 use Rattle.sg_apery.specs.Classes.{IsAboveEntry, IsClassList, IsKunz}
 use Rattle.sg_apery.specs.Conditions.{IsInBoth, IsInQuotient, IsInSmall, IsNotClosed, IsClosedSet, AreSmallAccepted, IsOutside}
+use Rattle.sg_apery.proofs.KunzLemmas.{residue-sum}
 use Rattle.sg_apery.proofs.GeneratorLemmas.{contains-place, place-contains}
 use Rattle.sg_exist.specs.Decided.{Decided, IsNumericalSet}
 use Rattle.sg_exist.specs.Sets.{AreSetsGenerated}
 use Rattle.sg_exist.proofs.Decisions.{decided-not, decided-and, decided-or, decided-same, decided-le, decided-lt, decided-eq, decided-divides, each-below, some-below}
-use Rattle.sg_exist.proofs.MemberDecisions.{member-decided}
+use Rattle.sg_defs.proofs.DecidedLemmas.{member-decided}
 use Rattle.sg_exist.proofs.BoundLemmas.{members-from, minimal_list-exists}
 
 -- ---- sets that are decided and have all from a number on
@@ -159,12 +160,6 @@ kunz-decided t = elim (classes-decided t) [
         | inl sums ↦ inl (record { classes = classes; sums = λ i j l m. sums i l j m })
       ]
 ]
-
-residue-sum : (a b n : ℕ) → (a % n + b % n) % n ≡ (a + b) % n
-residue-sum a b n =
-    let e : a + b % n ≡ b % n + a = omega arith in
-    let f : b + a ≡ a + b = omega arith in
-    mod-add-mod a n (b % n) ∙ ap (λ x. x % n) e ∙ mod-add-mod b n a ∙ ap (λ x. x % n) f
 
 -- what is at least the entry of its class is a numerical semigroup
 pub above-set : (t : List ℕ) → IsKunz t → IsNumericalSet (IsAboveEntry t)

@@ -1,26 +1,24 @@
 -- A numerical semigroup has one span, and of that it is decided whether it passes a limit.
-use Rattle.std.proofs.Common.{◌≡◌, ℕ, zero, suc, ◌+◌, ◌-◌, ◌<◌, ◌≤◌, List, length, get_or, inl, inr, arith}
-use Rattle.std.specs.Prelude.{◌⊎◌, ℤ, pos, ◌+ℤ◌, ◌-ℤ◌, ◌<ℤ◌}
-use Rattle.std.proofs.lemmas.Int.{ints, by_lt_z}
+use Rattle.std.proofs.Common.{◌≡◌, ℕ, ◌+◌, ◌-◌, ◌<◌, List, length, get_or, arith}
+use Rattle.std.specs.Prelude.{pos, ◌-ℤ◌}
+use Rattle.std.proofs.lemmas.Int.{ints}
 use Rattle.sg_defs.specs.Membership.{IsNumericalSemigroup}
-use Rattle.sg_defs.specs.Invariants.{IsFrobenius}
+use Rattle.sg_defs.proofs.OneLemmas.{one-frobenius}
 use Rattle.sg_apery.specs.Fit.{IsSpan}
 use Rattle.sg_exist.specs.Decided.{Decided}
 use Rattle.sg_exist.proofs.Decisions.{decided-same, decided-lt}
 use Rattle.sg_exist.proofs.InvariantsExist.{conductor-exists}
 
-frobenius-one : (G : List ℕ) (e f : ℤ) → IsFrobenius G e → IsFrobenius G f → e ≡ f
-frobenius-one G e f h k = by_lt_z {P = e ≡ f} e f (λ less. absurd (k.outside (h.above f less)))
-    (λ more. by_lt_z {P = e ≡ f} f e (λ less. absurd (h.outside (k.above e less))) (λ back. omega (arith, ints, more, back)))
-
+-- it has one
 pub span-exists : (G : List ℕ) → IsNumericalSemigroup G → (s : ℕ) × IsSpan G s
 span-exists G s =
     let c = conductor-exists G s in
     let p = s.positive 0 0 s.not_empty in
     (c.0 + get_or G 0 0 + get_or G (length G - 1) 0 - 1, (pos c.0 -ℤ pos 1, c.1, omega (arith, ints, p)))
 
+-- and no other
 pub span-one : (G : List ℕ) (s t : ℕ) → IsSpan G s → IsSpan G t → s ≡ t
-span-one G s t h k = let e = frobenius-one G h.0 k.0 h.1 k.1 in let a = h.2 in let b = k.2 in omega (arith, ints, a, b, e)
+span-one G s t h k = let e = one-frobenius G h.0 k.0 h.1 k.1 in let a = h.2 in let b = k.2 in omega (arith, ints, a, b, e)
 
 pub wide-decided : (G : List ℕ) → IsNumericalSemigroup G → (limit : ℕ) → Decided ((s : ℕ) × IsSpan G s × (limit < s))
 wide-decided G s limit =

@@ -3,8 +3,8 @@ use Rattle.std.proofs.Common.{◌≡◌, ◌≢◌, ℕ, ◌+◌, List, get_or, 
 use Rattle.std.specs.Prelude.{ℤ, pos, ◌+ℤ◌, ◌-ℤ◌, ◌≤ℤ◌}
 use Rattle.std.proofs.lemmas.Int.{ints}
 use Rattle.sg_defs.specs.Membership.{IsMember, IsIntegerMember, IsNumericalSemigroup}
-use Rattle.sg_defs.specs.Invariants.{IsFrobenius}
 use Rattle.sg_defs.specs.Ideals.{IsInCanonical, IsInMaximal}
+use Rattle.sg_defs.proofs.OneLemmas.{one-frobenius}
 use Rattle.sg_defs.proofs.MembershipLemmas.{member-add, member-entry}
 use Rattle.sg_invar.proofs.PseudoFrobeniusLemmas.{outside-below}
 use Rattle.sg_ideal.proofs.FromLemmas.{at-natural, natural-at}
@@ -13,15 +13,12 @@ use Rattle.sg_exist.proofs.Decisions.{decided-not, decided-and, decided-same, de
 use Rattle.sg_exist.proofs.InvariantsExist.{integer_member-decided, frobenius-exists}
 use Rattle.sg_generated.specs.Sets.{IsIdealSet}
 
-frobenius-one : (G : List ℕ) (e f : ℤ) → IsFrobenius G e → IsFrobenius G f → e ≡ f
-frobenius-one G e f h k = let a = outside-below G f e k h.outside in let b = outside-below G e f h k.outside in omega (arith, ints, a, b)
-
 module _ (G : List ℕ) (num : IsNumericalSemigroup G) where
   canonical-decided : (x : ℤ) → Decided (IsInCanonical G x)
   canonical-decided x =
       let f = frobenius-exists G num in
       decided-same (IsIntegerMember G (f.0 -ℤ x) → ⊥) (IsInCanonical G x) (λ not. (f.0, f.1, not))
-      (λ m. subst (λ g. IsIntegerMember G (g -ℤ x) → ⊥) (frobenius-one G m.0 f.0 m.1 f.1) m.2)
+      (λ m. subst (λ g. IsIntegerMember G (g -ℤ x) → ⊥) (one-frobenius G m.0 f.0 m.1 f.1) m.2)
       (decided-not (IsIntegerMember G (f.0 -ℤ x)) (integer_member-decided G (f.0 -ℤ x)))
 
   canonical-low : (x : ℤ) → IsInCanonical G x → pos 0 ≤ℤ x

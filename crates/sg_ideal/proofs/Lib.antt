@@ -15,7 +15,6 @@ pub mod FinishLemmas
 pub mod MovedLemmas
 pub mod PairLemmas
 pub mod OwnLemmas
-pub mod DecidedLemmas
 pub mod ReduceLemmas
 pub mod ClosedLemmas
 pub mod FoldLemmas

@@ -10,6 +10,7 @@ use Rattle.sg_defs.specs.Listings.{ListsIntegers}
 use Rattle.sg_defs.specs.Membership.{IsMember, IsIntegerMember, IsNumericalSemigroup}
 use Rattle.sg_defs.specs.Invariants.{IsFrobenius, IsPseudoFrobenius}
 use Rattle.sg_defs.specs.Ideals.{IsIdealMember, IsInCanonical, IsInMaximal, IsMinimalIdeal}
+use Rattle.sg_defs.proofs.OneLemmas.{one-frobenius}
 use Rattle.sg_defs.proofs.MembershipLemmas.{member-zero, member-add, member-entry}
 use Rattle.sg_apery.specs.Fit.{IsFit}
 use Rattle.sg_apery.proofs.GeneratorLemmas.{contains-place, entry-positive, member-listed, member-split}
@@ -127,16 +128,10 @@ module _ (G : List ℕ) (f : ℤ) (pf r : List ℤ) (semigroup : IsNumericalSemi
     where
       to : IsInCanonical G x → IsIdealMember G r x
       to m =
-          let one : m.0 ≡ f = frobenius-unique m.0 m.1 in
+          let one : m.0 ≡ f = one-frobenius G m.0 f m.1 frobenius in
           let p = pseudo-above (f -ℤ x) (subst (λ f. IsIntegerMember G (f -ℤ x) → ⊥) one m.2) in
           let e = p.4 in
           (f -ℤ p.0, reflected-to p.0 p.2, natural-at (IsMember G) (x -ℤ (f -ℤ p.0)) p.1 (omega (arith, ints, e)) p.3)
-        where
-          frobenius-unique : (h : ℤ) → IsFrobenius G h → h ≡ f
-          frobenius-unique h other =
-              let a = outside-below G f h frobenius other.outside in
-              let b = outside-below G h f other frobenius.outside in
-              omega (arith, ints, a, b)
 
       from : IsIdealMember G r x → IsInCanonical G x
       from m =

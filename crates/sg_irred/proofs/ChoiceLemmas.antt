@@ -1,13 +1,14 @@
 -- The chosen gaps: what is chosen step by step, that each gap is missing from the cover of one that is chosen, and that
 -- each chosen one lies in the covers of all others.
-use Rattle.std.proofs.Common.{◌≡◌, ℕ, zero, suc, ◌+◌, ◌-◌, ◌*◌, ◌<◌, ◌≤◌, List, [], ◌∷◌, ◌++◌, length, get_or, drop, drop-cons, append_assoc, refl, sym, ap, subst, ◌∙◌, inl, inr, arith}
-use Rattle.std.specs.Prelude.{◌⊎◌, ℤ, pos, ◌<ℤ◌, ◌≤ℤ◌, reverse, All, AllPairs, Contains}
+use Rattle.std.proofs.Common.{◌≡◌, ℕ, suc, ◌+◌, ◌-◌, ◌*◌, ◌<◌, ◌≤◌, List, [], ◌∷◌, ◌++◌, length, get_or, drop, drop-cons, append_assoc, refl, sym, ap, subst, ◌∙◌, inl, inr, arith}
+use Rattle.std.specs.Prelude.{ℤ, pos, ◌<ℤ◌, ◌≤ℤ◌, reverse, All, AllPairs, Contains}
 use Rattle.std.proofs.lemmas.Bool.{cases_lt}
 use Rattle.std.proofs.lemmas.Int.{ints}
 use Rattle.std.proofs.lemmas.List.{append-nil, reverse-append, length-reverse, get_or-reverse, get_or_default, length_push, get_or_append_left, get_or_push}
 use Rattle.std.proofs.lemmas.List.Elements.{All-cons, All-nil}
 use Rattle.std.proofs.lemmas.List.Kept.{AllPairs-cons}
 use Rattle.sg_defs.specs.Membership.{IsMember}
+use Rattle.sg_defs.proofs.ListLemmas.{contains-cases}
 use Rattle.sg_defs.specs.Invariants.{IsGap}
 use Rattle.sg_defs.specs.Decomposition.{IsInCover, IsInEachCover, IsChosen}
 use Rattle.sg_apery.specs.declared.limits.TheConstants.{APERY_ENTRY_LIMIT}
@@ -95,14 +96,6 @@ natural-push xs h before low high k l = elim (cases_lt k (length xs)) [
   | inl less ↦ subst IsBounded (sym (get_or_append_left xs (h ∷ []) (pos 0) k less)) (before k less)
   | inr more ↦ subst IsBounded (sym (get_or_push xs h (pos 0) k (let e : length xs ≡ k = omega (arith, more, l, length_push xs h) in e))) (low, high)
 ]
-
--- a list contains its first item, or what the rest contains
-contains-cases : {A : Type 0} (y : A) (ys : List A) (x : A) → Contains (y ∷ ys) x → (y ≡ x) ⊎ Contains ys x
-contains-cases y ys x h = at h.0 h.1 h.2
-  where
-    at : (k : ℕ) → k < length (y ∷ ys) → get_or (y ∷ ys) k x ≡ x → (y ≡ x) ⊎ Contains ys x
-    at zero l e = inl e
-    at (suc k) l e = inr (k, omega arith, e)
 
 -- a gap does not lie in its own cover
 pub own-cover : (G : List ℕ) (h : ℤ) (x : ℕ) → h ≡ pos x → IsInCover G h x → IsMember G x

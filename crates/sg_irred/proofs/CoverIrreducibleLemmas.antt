@@ -8,10 +8,11 @@ use Rattle.sg_defs.specs.Membership.{IsIntegerMember, Generates}
 use Rattle.sg_defs.specs.Invariants.{IsFrobenius, IsGap}
 use Rattle.sg_defs.specs.Symmetry.{ExactlyOne, IsIrreducible}
 use Rattle.sg_defs.specs.Decomposition.{IsInCover}
-use Rattle.sg_irred.proofs.SymmetryLemmas.{integer-add, symmetric-irreducible, pseudo_symmetric-irreducible}
+use Rattle.sg_defs.proofs.SymmetryLemmas.{symmetric-irreducible, pseudo_symmetric-irreducible}
+use Rattle.sg_defs.proofs.MembershipLemmas.{integer-add}
 use Rattle.sg_irred.proofs.CoverLemmas.{cover-from_new}
 use Rattle.sg_irred.proofs.ChoiceLemmas.{own-cover}
-use Rattle.sg_irred.proofs.DecidedLemmas.{member-or_gap}
+use Rattle.sg_defs.proofs.DecidedLemmas.{member-decided}
 
 -- even or odd
 halved : (n : ℕ) → ((k : ℕ) × (n ≡ k + k)) ⊎ ((k : ℕ) × (n ≡ suc (k + k)))
@@ -43,7 +44,7 @@ module _ (G : List ℕ) (h : ℕ) (M : List ℕ) (gap : IsGap G h) (g : Generate
     | inl past ↦ inl ((g.same n).0 (inr (inl (omega (arith, ints, past)))))
     | inr within ↦
         let e : pos (h - n) ≡ pos h -ℤ pos n = omega (arith, ints, within) in
-        elim (member-or_gap G (h - n)) [
+        elim (member-decided G (h - n)) [
           | inl member ↦ inr (subst (IsIntegerMember M) e ((g.same (h - n)).0 (inl member)))
           | inr none ↦ inl ((g.same n).0 (cover-from_new G (pos h) n (record {
             past = omega (arith, ints, l);

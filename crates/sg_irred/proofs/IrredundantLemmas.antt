@@ -15,12 +15,12 @@ use Rattle.sg_defs.proofs.MembershipLemmas.{member-zero}
 use Rattle.sg_apery.specs.Fit.{IsSpan}
 use Rattle.sg_apery.specs.declared.limits.TheConstants.{SPAN_LIMIT}
 use Rattle.sg_irred.specs.Cover.{AreNatural}
-use Rattle.sg_irred.proofs.SymmetryLemmas.{symmetric-irreducible}
+use Rattle.sg_defs.proofs.SymmetryLemmas.{symmetric-irreducible}
 use Rattle.sg_irred.proofs.TestLemmas.{naturals-symmetric}
 use Rattle.sg_irred.proofs.CoverLemmas.{below-zero, cover-add}
 use Rattle.sg_irred.proofs.ChoiceLemmas.{LiesInCover, IsLater, chosen-missing, chosen-in, chosen-pairs, descending}
 use Rattle.sg_irred.proofs.PlaceLemmas.{AreCovers, zip-at, contains-reversed, reversed-contains}
-use Rattle.sg_irred.proofs.DecidedLemmas.{member-or_gap}
+use Rattle.sg_defs.proofs.DecidedLemmas.{member-decided}
 use Rattle.sg_irred.proofs.CoverIrreducibleLemmas.{cover-irreducible}
 
 -- a special gap is a natural that is no member
@@ -134,7 +134,7 @@ module _ (G : List ℕ) (special chosen : List ℤ) (L : List (List ℕ)) (f : �
   -- the greatest number of all covers that is no member would be a special gap
   met : (k n : ℕ) → f <ℤ pos (n + k) → IsInEachCover G chosen (pos n) → IsMember G n
   met zero n l all = frobenius.above (pos n) (omega (arith, ints, l))
-  met (suc k) n l all = elim (member-or_gap G n) [
+  met (suc k) n l all = elim (member-decided G n) [
     | inl member ↦ member
     | inr gap ↦
         let positive : 0 < n = positive-gap n gap in

@@ -1,12 +1,10 @@
 pub mod CountLemmas
 pub mod MirrorLemmas
 pub mod AddedLemmas
-pub mod SymmetryLemmas
 pub mod IrreducibleLemmas
 pub mod TestLemmas
 pub mod CoverLemmas
 pub mod ChoiceLemmas
 pub mod PlaceLemmas
-pub mod DecidedLemmas
 pub mod CoverIrreducibleLemmas
 pub mod IrredundantLemmas

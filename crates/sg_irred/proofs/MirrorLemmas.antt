@@ -1,14 +1,14 @@
 -- The gaps x for which F - x is a gap too, where F is the Frobenius number: twice the genus exceeds F by 1 and by their
 -- number, since of each x and F - x at least one is a gap.
 use Rattle.std.proofs.Common.{◌≡◌, ◌≢◌, ℕ, suc, ◌+◌, ◌-◌, ◌*◌, ◌<◌, ◌≤◌, Bool, true, false, List, refl, sym, ap, subst, ◌∙◌, inl, inr, arith}
-use Rattle.std.specs.Prelude.{◌⊎◌, ℤ, pos, negsuc, ◌+ℤ◌, ◌-ℤ◌, ◌≤ℤ◌}
+use Rattle.std.specs.Prelude.{◌⊎◌, ℤ, pos, negsuc, ◌+ℤ◌, ◌-ℤ◌}
 use Rattle.std.proofs.lemmas.Bool.{cases_lt, cases_eq}
-use Rattle.std.proofs.lemmas.Int.{ints, by_lt_z}
+use Rattle.std.proofs.lemmas.Int.{ints}
 use Rattle.sg_defs.specs.Membership.{IsMember, IsIntegerMember}
 use Rattle.sg_defs.specs.Invariants.{IsFrobenius, IsGap, IsGenus}
 use Rattle.sg_defs.specs.Symmetry.{ExactlyOne, IsSymmetric, IsPseudoSymmetric}
-use Rattle.sg_defs.proofs.MembershipLemmas.{member-add}
-use Rattle.sg_irred.proofs.SymmetryLemmas.{integer-add}
+use Rattle.sg_defs.proofs.OneLemmas.{one-frobenius}
+use Rattle.sg_defs.proofs.MembershipLemmas.{member-add, integer-add}
 use Rattle.sg_irred.proofs.CountLemmas.{count_below, both, told, both-true, true-both, count-reversed, count-pair, count-none, count-some, count-two, count-single, greatest-with, count-listed}
 
 -- whether the second of two facts holds
@@ -43,10 +43,6 @@ pair_test G split F = both (gap_test G split) (mirror_test G split F)
 -- how many gaps up to F are such
 abbrev pub pairs : (G : List ℕ) → ((n : ℕ) → IsMember G n ⊎ IsGap G n) → ℕ → ℕ
 pairs G split F = count_below (pair_test G split F) (suc F)
-
-pub frobenius-unique : (G : List ℕ) (a b : ℤ) → IsFrobenius G a → IsFrobenius G b → a ≡ b
-frobenius-unique G a b f g = by_lt_z a b (λ less. absurd (g.outside (f.above b less)))
-    (λ (more : b ≤ℤ a). by_lt_z b a (λ less. absurd (f.outside (g.above a less))) (λ (back : a ≤ℤ b). omega (arith, ints, more, back)))
 
 module _ (G : List ℕ) (F : ℕ) (h : IsFrobenius G (pos F)) (split : (n : ℕ) → IsMember G n ⊎ IsGap G n) where
   pub beyond : (n : ℕ) → F < n → IsMember G n
@@ -132,7 +128,7 @@ module _ (G : List ℕ) (F : ℕ) (h : IsFrobenius G (pos F)) (split : (n : ℕ)
 
   pub none-from_symmetric : IsSymmetric G → pairs G split F ≡ 0
   none-from_symmetric s =
-      let same = frobenius-unique G s.frobenius (pos F) s.is_frobenius h in
+      let same = one-frobenius G s.frobenius (pos F) s.is_frobenius h in
       count-none (pair_test G split F) (suc F) (λ n l. elim (told (pair_test G split F n)) [
         | inl b ↦ absurd (one-not_paired n l (subst (λ f. IsIntegerMember G (pos n) ⊎ IsIntegerMember G (f -ℤ pos n)) same (s.mirrored (pos n)).one) b)
         | inr fails ↦ fails
@@ -157,7 +153,7 @@ module _ (G : List ℕ) (F : ℕ) (h : IsFrobenius G (pos F)) (split : (n : ℕ)
 
   pub one-from_pseudo_symmetric : IsPseudoSymmetric G → pairs G split F ≡ 1
   one-from_pseudo_symmetric s =
-      let same = frobenius-unique G (s.half +ℤ s.half) (pos F) s.is_frobenius h in
+      let same = one-frobenius G (s.half +ℤ s.half) (pos F) s.is_frobenius h in
       from_half s.half same (λ y differs. subst (λ f. IsIntegerMember G y ⊎ IsIntegerMember G (f -ℤ y)) same (s.mirrored y differs).one)
     where
       from_half : (x : ℤ) → x +ℤ x ≡ pos F → ((y : ℤ) → y ≢ x → IsIntegerMember G y ⊎ IsIntegerMember G (pos F -ℤ y)) → pairs G split F ≡ 1

@@ -7,8 +7,9 @@ use Rattle.std.proofs.lemmas.List.Elements.{Contains-get_or}
 use Rattle.sg_defs.specs.Membership.{IsMember, IsIntegerMember}
 use Rattle.sg_defs.specs.Invariants.{IsFrobenius, IsConductor, IsGap, IsGenus}
 use Rattle.sg_defs.specs.Symmetry.{ExactlyOne, IsSymmetric, IsPseudoSymmetric, IsIrreducible}
-use Rattle.sg_irred.proofs.MirrorLemmas.{pairs, frobenius-unique, twice-genus, symmetric-from_none, none-from_symmetric, pseudo_symmetric-from_one, one-from_pseudo_symmetric}
-use Rattle.sg_irred.proofs.SymmetryLemmas.{symmetric-irreducible, pseudo_symmetric-irreducible}
+use Rattle.sg_irred.proofs.MirrorLemmas.{pairs, twice-genus, symmetric-from_none, none-from_symmetric, pseudo_symmetric-from_one, one-from_pseudo_symmetric}
+use Rattle.sg_defs.proofs.OneLemmas.{one-frobenius}
+use Rattle.sg_defs.proofs.SymmetryLemmas.{symmetric-irreducible, pseudo_symmetric-irreducible}
 use Rattle.sg_irred.proofs.IrreducibleLemmas.{reducible}
 
 -- where the Frobenius number is -1 there are no gaps, and the semigroup is symmetric
@@ -34,7 +35,7 @@ module _ (G : List ℕ) (h : IsFrobenius G (negsuc 0)) where
 
   -- -1 is odd
   not-pseudo_symmetric : IsPseudoSymmetric G → ⊥
-  not-pseudo_symmetric s = odd s.half (frobenius-unique G (s.half +ℤ s.half) (negsuc 0) s.is_frobenius h)
+  not-pseudo_symmetric s = odd s.half (one-frobenius G (s.half +ℤ s.half) (negsuc 0) s.is_frobenius h)
     where
       odd : (x : ℤ) → x +ℤ x ≡ negsuc 0 → ⊥
       odd (pos a) e = omega (arith, ints, e)

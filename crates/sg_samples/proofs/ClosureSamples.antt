@@ -6,6 +6,7 @@ use Rattle.std.proofs.lemmas.Int.{ints}
 use Rattle.std.proofs.lemmas.List.Elements.{All-nil, All-cons}
 use Rattle.sg_defs.specs.Closures.{IsArf, IsMed, integer_value_of, IsSaturated, IsArfClosure, IsMedClosure, IsSaturatedClosure}
 use Rattle.sg_defs.specs.Membership.{IsMember, IsNumericalSemigroup, IsMultiplicity, Holds}
+use Rattle.sg_defs.proofs.OneLemmas.{one-multiplicity}
 use Rattle.sg_defs.proofs.MembershipLemmas.{member-add, member-entry, member-times}
 use Rattle.sg_samples.proofs.SmallLemmas.{by_three}
 use Rattle.sg_samples.proofs.KnownSemigroups.{three_five_seven, three_five_seven-above, three_five_seven-in, three_five_seven-out}
@@ -50,12 +51,6 @@ three_five_seven-multiplicity = record { positive = omega arith; member = member
     least : (n : ℕ) → 0 < n → IsMember (3 ∷ 5 ∷ 7 ∷ []) n → 3 ≤ n
     least n l h = let o = three_five_seven-out n h in omega arith
 
-one_multiplicity : (G : List ℕ) (m n : ℕ) → IsMultiplicity G m → IsMultiplicity G n → m ≡ n
-one_multiplicity G m n p q =
-    let l = p.least n q.positive q.member in
-    let k = q.least m p.positive p.member in
-    omega arith
-
 pub med : IsMed (3 ∷ 5 ∷ 7 ∷ [])
 med = (3, three_five_seven-multiplicity, sums)
   where
@@ -67,18 +62,18 @@ med = (3, three_five_seven-multiplicity, sums)
 
 pub not_med : IsMed (3 ∷ 5 ∷ []) → ⊥
 not_med h =
-    let e : 5 + 5 - h.0 ≡ 7 = let m = one_multiplicity (3 ∷ 5 ∷ []) h.0 3 h.1 three_five-multiplicity in omega arith in
+    let e : 5 + 5 - h.0 ≡ 7 = let m = one-multiplicity (3 ∷ 5 ∷ []) h.0 3 h.1 three_five-multiplicity in omega arith in
     not_seven (subst (IsMember (3 ∷ 5 ∷ [])) e (h.2 5 5 (omega arith) (omega arith) five five))
 
 pub med_closure : IsMedClosure (3 ∷ 5 ∷ []) (3 ∷ 5 ∷ 7 ∷ [])
 med_closure = record { semigroup = three_five_seven; has = (med, same); holds = more_generators; least = least }
   where
     same : (m : ℕ) → IsMultiplicity (3 ∷ 5 ∷ []) m → IsMultiplicity (3 ∷ 5 ∷ 7 ∷ []) m
-    same m h = subst (IsMultiplicity (3 ∷ 5 ∷ 7 ∷ [])) (one_multiplicity (3 ∷ 5 ∷ []) 3 m three_five-multiplicity h) three_five_seven-multiplicity
+    same m h = subst (IsMultiplicity (3 ∷ 5 ∷ 7 ∷ [])) (one-multiplicity (3 ∷ 5 ∷ []) 3 m three_five-multiplicity h) three_five_seven-multiplicity
 
     least : (K : List ℕ) → IsNumericalSemigroup K → IsMed K × ((m : ℕ) → IsMultiplicity (3 ∷ 5 ∷ []) m → IsMultiplicity K m) → Holds K (3 ∷ 5 ∷ []) → Holds K (3 ∷ 5 ∷ 7 ∷ [])
     least K s p h =
-        let m = one_multiplicity K p.0.0 3 p.0.1 (p.1 3 three_five-multiplicity) in
+        let m = one-multiplicity K p.0.0 3 p.0.1 (p.1 3 three_five-multiplicity) in
         let e : 5 + 5 - p.0.0 ≡ 7 = omega arith in
         holds-three_five_seven K (h 3 three) (h 5 five) (subst (IsMember K) e (p.0.2 5 5 (omega arith) (omega arith) (h 5 five) (h 5 five)))
 

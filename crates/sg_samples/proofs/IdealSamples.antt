@@ -6,11 +6,11 @@ use Rattle.std.proofs.lemmas.List.Elements.{All-nil, All-cons}
 use Rattle.sg_defs.specs.Ideals.{IsIdealMember, IsInSum, IsInDifference, IsInMultiple, IsInCanonical, IsInMaximal, IsMinimalIdeal}
 use Rattle.sg_defs.specs.Invariants.{IsFrobenius}
 use Rattle.sg_defs.specs.Membership.{IsMember, IsIntegerMember}
-use Rattle.sg_defs.proofs.MembershipLemmas.{member-entry, member-zero}
-use Rattle.sg_samples.proofs.SmallLemmas.{contains-cases, contains-nil, here, later, pairs-cons, pairs-nil}
+use Rattle.sg_defs.proofs.MembershipLemmas.{member-entry, member-zero, integer-add}
+use Rattle.sg_samples.proofs.SmallLemmas.{contains-nil, here, later, pairs-cons, pairs-nil}
+use Rattle.sg_defs.proofs.ListLemmas.{contains-cases}
 use Rattle.sg_samples.proofs.KnownSemigroups.{three_five-in, three_five-out, three_seven_eight-above, three_seven_eight-out}
-use Rattle.sg_samples.proofs.InvariantSamples.{one_frobenius}
-use Rattle.sg_samples.proofs.SymmetryLemmas.{integer-add}
+use Rattle.sg_defs.proofs.OneLemmas.{one-frobenius}
 
 -- ---- the ideal of 0 and 1
 
@@ -111,7 +111,7 @@ canonical x = (there, back x)
     at (negsuc k) h = absurd (h (three_seven_eight-above (5 + suc k) (omega arith)))
 
     there : IsInCanonical (3 ∷ 7 ∷ 8 ∷ []) x → IsIdealMember (3 ∷ 7 ∷ 8 ∷ []) (pos 0 ∷ pos 1 ∷ []) x
-    there h = at x (subst (λ f. IsIntegerMember (3 ∷ 7 ∷ 8 ∷ []) (f -ℤ x) → ⊥) (one_frobenius (3 ∷ 7 ∷ 8 ∷ []) h.0 (pos 5) h.1 frobenius) h.2)
+    there h = at x (subst (λ f. IsIntegerMember (3 ∷ 7 ∷ 8 ∷ []) (f -ℤ x) → ⊥) (one-frobenius (3 ∷ 7 ∷ 8 ∷ []) h.0 (pos 5) h.1 frobenius) h.2)
 
     -- with x - g and 5 - x the number 5 - g would be a member, which is 5 or 4
     back : (x : ℤ) → IsIdealMember (3 ∷ 7 ∷ 8 ∷ []) (pos 0 ∷ pos 1 ∷ []) x → IsInCanonical (3 ∷ 7 ∷ 8 ∷ []) x

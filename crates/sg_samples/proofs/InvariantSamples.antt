@@ -1,23 +1,18 @@
 -- The invariants of N, <3, 5> and <3, 5, 7>.
-use Rattle.std.proofs.Common.{◌≡◌, ℕ, zero, suc, ◌+◌, ◌*◌, ◌<◌, ◌≤◌, List, [], ◌∷◌, refl, sym, subst, inl, inr, arith}
-use Rattle.std.specs.Prelude.{ℤ, pos, negsuc, ◌+ℤ◌, ◌<ℤ◌, ◌≤ℤ◌, ◌⊎◌, All, AllPairs, Contains}
+use Rattle.std.proofs.Common.{◌≡◌, ℕ, zero, suc, ◌+◌, ◌*◌, ◌<◌, ◌≤◌, [], ◌∷◌, refl, sym, subst, inl, inr, arith}
+use Rattle.std.specs.Prelude.{ℤ, pos, negsuc, ◌+ℤ◌, ◌<ℤ◌, ◌⊎◌, All, AllPairs, Contains}
 use Rattle.std.specs.List.Sorted.{IsStrictlyIncreasing}
-use Rattle.std.proofs.lemmas.Int.{ints, by_lt_z}
+use Rattle.std.proofs.lemmas.Int.{ints}
 use Rattle.std.proofs.lemmas.List.Elements.{All-nil, All-cons}
 use Rattle.sg_defs.specs.Listings.{Lists, ListsIntegers}
 use Rattle.sg_defs.specs.Membership.{IsMember, IsIntegerMember}
 use Rattle.sg_defs.specs.Invariants.{IsFrobenius, IsGap, IsGenus, AreSmallElements, IsPseudoFrobenius, IsSpecialGap, IsFundamentalGap, IsType}
 use Rattle.sg_defs.proofs.MembershipLemmas.{member-entry, member-zero}
-use Rattle.sg_samples.proofs.SmallLemmas.{ascending-cons, ascending-nil, ascending-one, contained, contains-cases, contains-nil, here, later, listed, pairs-cons, pairs-nil}
+use Rattle.sg_samples.proofs.SmallLemmas.{ascending-cons, ascending-nil, ascending-one, contained, contains-nil, here, later, listed, pairs-cons, pairs-nil}
+use Rattle.sg_defs.proofs.ListLemmas.{contains-cases}
 use Rattle.sg_samples.proofs.KnownSemigroups.{natural, three_five-in, three_five-out, three_five_seven-above, three_five_seven-out}
 
 -- ---- Frobenius numbers and conductors
-
--- there is one Frobenius number
-pub one_frobenius : (G : List ℕ) (f g : ℤ) → IsFrobenius G f → IsFrobenius G g → f ≡ g
-one_frobenius G f g p q = by_lt_z f g
-    (λ (l : f <ℤ g). absurd (q.outside (p.above g l)))
-    (λ (h : g ≤ℤ f). by_lt_z g f (λ (l : g <ℤ f). absurd (p.outside (q.above f l))) (λ (k : f ≤ℤ g). omega (arith, ints, h, k)))
 
 pub three_five-frobenius : IsFrobenius (3 ∷ 5 ∷ []) (pos 7)
 three_five-frobenius = record { outside = λ h. (three_five-out 7 h).3 refl; above = above }

@@ -1,6 +1,5 @@
 pub mod SmallLemmas
 pub mod KnownSemigroups
-pub mod SymmetryLemmas
 pub mod VectorSamples
 pub mod MemberSamples
 pub mod InvariantSamples

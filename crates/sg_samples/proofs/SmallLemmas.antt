@@ -1,6 +1,6 @@
 -- Tools for small instances: all numbers from a bound on, factorizations by few numbers, and short lists.
-use Rattle.std.proofs.Common.{◌≡◌, ℕ, zero, suc, ◌+◌, ◌-◌, ◌*◌, ◌/◌, ◌%◌, ◌<◌, ◌≤◌, List, [], ◌∷◌, length, get_or, refl, sym, subst, inl, inr, arith}
-use Rattle.std.specs.Prelude.{◌⊎◌, All, AllPairs, Contains}
+use Rattle.std.proofs.Common.{◌≡◌, ℕ, zero, suc, ◌+◌, ◌-◌, ◌*◌, ◌/◌, ◌%◌, ◌<◌, ◌≤◌, List, [], ◌∷◌, get_or, refl, sym, subst, arith}
+use Rattle.std.specs.Prelude.{All, AllPairs, Contains}
 use Rattle.std.specs.List.Sorted.{IsStrictlyIncreasing}
 use Rattle.sg_defs.specs.Listings.{Lists}
 use Rattle.sg_defs.specs.Membership.{IsFactorization, IsMember}
@@ -52,13 +52,6 @@ here x xs = (0, omega arith, refl)
 
 pub later : {A : Type 0} (y : A) (xs : List A) (x : A) → Contains xs x → Contains (y ∷ xs) x
 later y xs x h = (suc h.0, omega (arith, h.1), h.2)
-
-pub contains-cases : {A : Type 0} (y : A) (ys : List A) (x : A) → Contains (y ∷ ys) x → (y ≡ x) ⊎ Contains ys x
-contains-cases y ys x h = at h.0 h.1 h.2
-  where
-    at : (k : ℕ) → k < length (y ∷ ys) → get_or (y ∷ ys) k x ≡ x → (y ≡ x) ⊎ Contains ys x
-    at zero l e = inl e
-    at (suc k) l e = inr (k, omega arith, e)
 
 -- what holds of each element holds of every number that the list contains
 pub contained : {A : Type 0} (P : A → Type 0) (xs : List A) (x : A) → All P xs → Contains xs x → P x

@@ -6,7 +6,7 @@ use Rattle.sg_defs.specs.Membership.{IsMember, IsIntegerMember}
 use Rattle.sg_defs.specs.Invariants.{IsFrobenius}
 use Rattle.sg_defs.specs.Symmetry.{ExactlyOne, IsSymmetric, IsPseudoSymmetric, IsIrreducible}
 use Rattle.sg_defs.proofs.MembershipLemmas.{member-entry, member-zero}
-use Rattle.sg_samples.proofs.SymmetryLemmas.{symmetric-irreducible, pseudo_symmetric-irreducible}
+use Rattle.sg_defs.proofs.SymmetryLemmas.{symmetric-irreducible, pseudo_symmetric-irreducible}
 use Rattle.sg_samples.proofs.InvariantSamples.{natural-frobenius, three_five-frobenius, three_five_seven-frobenius}
 use Rattle.sg_samples.proofs.KnownSemigroups.{natural, three_four, three_four-in, three_four-out, three_five-in, three_five-out, three_five_seven, three_five_seven-above, three_five_seven-in, three_five_seven-out, three_seven_eight-in, three_seven_eight-out}
 

@@ -1,10 +1,9 @@
-use Rattle.std.proofs.Common.{◌≡◌, ℕ, ◌<◌, ◌++◌, Bool, List, length, take, drop, sym, ap, subst, ◌∙◌, arith}
+use Rattle.std.proofs.Common.{◌≡◌, length, drop, sym, subst, ◌∙◌}
 use Rattle.std.proofs.lemmas.List.{take_at}
 use Rattle.std.proofs.lemmas.Result.{IfOk-weaker}
-use Rattle.sg_defs.specs.Membership.{IsMember, Generates}
-use Rattle.sg_defs.specs.Closures.{IsArf, IsArfClosure}
+use Rattle.sg_defs.specs.Membership.{Generates}
+use Rattle.sg_defs.specs.Closures.{IsArfClosure}
 use Rattle.sg_closure.specs.Marks.{IsIn, IsAbove, AreGeneratorMarks}
-use Rattle.sg_closure.specs.Steps.{HasSteps}
 use Rattle.sg_closure.proofs.ArfLemmas.{steps-above, steps-closure}
 use Rattle.sg_closure.proofs.arf.arf_closure.Goals as goal
 

@@ -1,4 +1,4 @@
-use Rattle.std.proofs.Common.{◌≡◌, ◌∙◌}
+use Rattle.std.proofs.Common.{◌∙◌}
 use Rattle.sg_defs.specs.Closures.{IsArf}
 use Rattle.sg_closure.proofs.TestLemmas.{own-closure-tested}
 use Rattle.sg_closure.proofs.arf.is_arf.Goals as goal

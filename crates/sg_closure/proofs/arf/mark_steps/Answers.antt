@@ -1,7 +1,4 @@
-use Rattle.std.proofs.Common.{◌≡◌, ℕ, ◌+◌, ◌-◌, ◌*◌, ◌<◌, ◌↔◌, true, false, Bool, List, length, refl, sym, subst, ◌∙◌, arith}
-use Rattle.std.specs.Prelude.{◌⊎◌}
-use Rattle.sg_closure.specs.Marks.{IsIn}
-use Rattle.sg_closure.specs.Steps.{HasSteps}
+use Rattle.std.proofs.Common.{◌≡◌, ℕ, ◌+◌, Bool, List, length, sym, subst, arith}
 use Rattle.sg_closure.proofs.MarkLemmas.{in-true, out-false}
 use Rattle.sg_closure.proofs.StepLemmas.{IsMarking, marking-begins, marking-passes, marking-steps, marking-ends}
 use Rattle.sg_closure.proofs.arf.mark_steps.Goals as goal

@@ -1,7 +1,3 @@
-use Rattle.std.proofs.Common.{◌≡◌, ℕ, ◌+◌, ◌-◌, ◌<◌, List, length}
-use Rattle.sg_defs.specs.Membership.{IsMember}
-use Rattle.sg_defs.specs.Closures.{IsArf}
-use Rattle.sg_closure.specs.Marks.{IsIn}
 use Rattle.sg_closure.proofs.StepLemmas.{IsMarking}
 use Rattle.sg_closure.proofs.arf.mark_steps.Given as goal
 

@@ -1,4 +1,4 @@
-use Rattle.std.proofs.Common.{◌≡◌, ℕ, ◌<◌, length, arith}
+use Rattle.std.proofs.Common.{arith}
 use Rattle.std.proofs.lemmas.List.{length_push}
 use Rattle.sg_apery.proofs.GeneratorLemmas.{each-push}
 use Rattle.sg_closure.specs.Marks.{IsLeastIn}

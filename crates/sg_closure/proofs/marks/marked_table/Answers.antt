@@ -1,5 +1,5 @@
-use Rattle.std.proofs.Common.{◌≡◌, ℕ, ◌+◌, ◌<◌, ◌≤◌, Bool, List, length, get_or, sym, subst, ◌∙◌, arith}
-use Rattle.sg_defs.specs.Membership.{IsMember, IsNumericalSemigroup, Generates}
+use Rattle.std.proofs.Common.{◌≡◌, ℕ, ◌<◌, ◌≤◌, Bool, List, length, get_or, sym, subst, arith}
+use Rattle.sg_defs.specs.Membership.{IsNumericalSemigroup, Generates}
 use Rattle.sg_defs.proofs.MembershipLemmas.{member-zero, member-entry}
 use Rattle.sg_apery.specs.Classes.{IsAboveEntry, IsKunz}
 use Rattle.sg_apery.specs.Conditions.{IsAperyRefused}

@@ -1,6 +1,6 @@
-use Rattle.std.proofs.Common.{◌≡◌, ℕ, ◌↔◌, Bool, List, get_or, sym, subst, ◌∙◌}
+use Rattle.std.proofs.Common.{◌≡◌, ℕ, ◌↔◌, Bool, List, get_or, sym, subst}
 use Rattle.std.proofs.lemmas.Result.{IfOk-weaker}
-use Rattle.sg_defs.specs.Membership.{IsMember, IsNumericalSemigroup, IsMinimal, Generates, Holds}
+use Rattle.sg_defs.specs.Membership.{IsNumericalSemigroup, IsMinimal, Generates, Holds}
 use Rattle.sg_defs.specs.Closures.{IsMedClosure}
 use Rattle.sg_closure.specs.Marks.{IsIn, IsAbove}
 use Rattle.sg_closure.specs.Differences.{GeneratesDifferences, IsShifted}

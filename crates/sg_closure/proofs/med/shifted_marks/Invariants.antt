@@ -1,4 +1,4 @@
-use Rattle.std.proofs.Common.{◌≡◌, ℕ, ◌<◌, ◌↔◌, true, length, slice_index}
+use Rattle.std.proofs.Common.{◌≡◌, ℕ, ◌<◌, ◌↔◌, length, slice_index}
 use Rattle.sg_closure.specs.Marks.{IsIn}
 use Rattle.sg_closure.specs.Differences.{IsShifted}
 use Rattle.sg_closure.proofs.med.shifted_marks.Given as goal

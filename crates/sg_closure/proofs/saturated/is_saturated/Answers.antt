@@ -1,4 +1,4 @@
-use Rattle.std.proofs.Common.{◌≡◌, ◌∙◌}
+use Rattle.std.proofs.Common.{◌∙◌}
 use Rattle.sg_defs.specs.Closures.{IsSaturated}
 use Rattle.sg_closure.proofs.TestLemmas.{own-closure-tested}
 use Rattle.sg_closure.proofs.saturated.is_saturated.Goals as goal

@@ -1,4 +1,4 @@
-use Rattle.std.proofs.Common.{◌≡◌, ℕ, ◌+◌, ◌<◌, ◌≤◌, List, length, get_or, sym, ap, subst, ◌∙◌, arith}
+use Rattle.std.proofs.Common.{◌≡◌, get_or, sym, ap, subst, ◌∙◌, arith}
 use Rattle.sg_closure.proofs.SaturationLemmas.{IsSifted, sifted-begins, sifted-steps, next-positive}
 use Rattle.sg_closure.proofs.saturated.mark_multiples.Goals as goal
 

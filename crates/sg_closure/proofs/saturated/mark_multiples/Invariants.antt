@@ -1,6 +1,3 @@
-use Rattle.std.proofs.Common.{◌≡◌, ℕ, ◌<◌, ◌≤◌, ◌↔◌, length}
-use Rattle.std.specs.Int.{◌∣◌}
-use Rattle.sg_closure.specs.Marks.{IsIn}
 use Rattle.sg_closure.proofs.SaturationLemmas.{IsSifted}
 use Rattle.sg_closure.proofs.saturated.mark_multiples.Given as goal
 

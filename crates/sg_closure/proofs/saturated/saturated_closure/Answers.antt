@@ -1,7 +1,7 @@
-use Rattle.std.proofs.Common.{◌≡◌, ℕ, ◌<◌, ◌++◌, ◌↔◌, Bool, List, length, take, drop, sym, subst, ◌∙◌}
+use Rattle.std.proofs.Common.{◌≡◌, length, drop, sym, subst, ◌∙◌}
 use Rattle.std.proofs.lemmas.List.{take_at}
 use Rattle.std.proofs.lemmas.Result.{IfOk-weaker}
-use Rattle.sg_defs.specs.Membership.{IsNumericalSemigroup, IsMinimal, Generates}
+use Rattle.sg_defs.specs.Membership.{Generates}
 use Rattle.sg_defs.specs.Closures.{IsSaturatedClosure}
 use Rattle.sg_closure.specs.Marks.{IsIn, IsAbove, AreGeneratorMarks}
 use Rattle.sg_closure.proofs.SaturatedLemmas.{saturation-above, saturation-closure}

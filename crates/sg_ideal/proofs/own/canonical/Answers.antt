@@ -6,7 +6,7 @@ use Rattle.sg_ideal.specs.Faults.{AreRefused, IsSizeFault}
 use Rattle.sg_ideal.specs.Value.{AreWithin, IsIdealOf, IsReflected}
 use Rattle.sg_ideal.proofs.FaultLemmas.{ideal-same, some-faults}
 use Rattle.sg_ideal.proofs.OwnLemmas.{canonical-generates, canonical-same, pseudo-listed, pseudo-within}
-use Rattle.sg_ideal.proofs.DecidedLemmas.{member-decided}
+use Rattle.sg_defs.proofs.DecidedLemmas.{member-decided}
 use Rattle.sg_ideal.proofs.own.canonical.Goals as goal
 
 -- the Frobenius number as it is passed

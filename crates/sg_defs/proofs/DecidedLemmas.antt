@@ -1,10 +1,9 @@
--- Whether a number is a member of a list of generators is decided, by the first generator and then the others.
+-- Whether a number is a sum of given generators is decided, by the first generator and then the others.
 use Rattle.std.proofs.Common.{◌≡◌, ℕ, zero, suc, ◌+◌, ◌-◌, ◌*◌, ◌<◌, ◌≤◌, List, [], ◌∷◌, sym, ap, subst, inl, inr, arith}
 use Rattle.std.specs.Prelude.{◌⊎◌}
 use Rattle.std.proofs.lemmas.Bool.{cases_lt, cases_eq}
 use Rattle.sg_defs.specs.Vectors.{value_of}
 use Rattle.sg_defs.specs.Membership.{IsFactorization, IsMember}
-use Rattle.sg_defs.specs.Invariants.{IsGap}
 use Rattle.sg_defs.proofs.MembershipLemmas.{member-zero, member-add, member-entry}
 
 -- it is a sum of the others, or a member once the first is taken away
@@ -24,7 +23,7 @@ first-none : (g : ℕ) (G : List ℕ) (n : ℕ) → IsMember G n → IsMember (g
 first-none g G n h = (0 ∷ h.0, record { places = ap suc h.1.places; value = let e : 0 * g + value_of G h.0 ≡ n = omega (arith, h.1.value) in e })
 
 -- with a first generator above 0, by going down
-positive-decided : (g : ℕ) (G : List ℕ) → 0 < g → ((n : ℕ) → IsMember G n ⊎ IsGap G n) → (k n : ℕ) → n < k → IsMember (g ∷ G) n ⊎ IsGap (g ∷ G) n
+positive-decided : (g : ℕ) (G : List ℕ) → 0 < g → ((n : ℕ) → IsMember G n ⊎ ¬ IsMember G n) → (k n : ℕ) → n < k → IsMember (g ∷ G) n ⊎ ¬ IsMember (g ∷ G) n
 positive-decided g G some others zero n l = absurd (omega arith)
 positive-decided g G some others (suc k) n l = elim (others n) [
   | inl member ↦ inl (first-none g G n member)
@@ -46,10 +45,10 @@ zero-first G n h = at h.0 h.1
     at (c ∷ z) f = (z, record { places = omega (arith, f.places); value = let v = f.value in let e : value_of G z ≡ n = omega (arith, v) in e })
 
 -- of each number
-pub member-or_gap : (G : List ℕ) (n : ℕ) → IsMember G n ⊎ IsGap G n
-member-or_gap [] n = elim (cases_eq n 0) [
+pub member-decided : (G : List ℕ) (n : ℕ) → IsMember G n ⊎ ¬ IsMember G n
+member-decided [] n = elim (cases_eq n 0) [
   | inl none ↦ inl (subst (IsMember []) (sym none) (member-zero []))
   | inr some ↦ inr (λ h. some (let v = h.1.value in let e : n ≡ 0 = omega (arith, v) in e))
 ]
-member-or_gap (zero ∷ G) n = elim (member-or_gap G n) [ inl member ↦ inl (first-none 0 G n member) | inr none ↦ inr (λ h. none (zero-first G n h)) ]
-member-or_gap (suc g ∷ G) n = positive-decided (suc g) G (omega arith) (member-or_gap G) (n + 1) n (omega arith)
+member-decided (zero ∷ G) n = elim (member-decided G n) [ inl member ↦ inl (first-none 0 G n member) | inr none ↦ inr (λ h. none (zero-first G n h)) ]
+member-decided (suc g ∷ G) n = positive-decided (suc g) G (omega arith) (member-decided G) (n + 1) n (omega arith)

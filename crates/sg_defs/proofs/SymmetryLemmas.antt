@@ -2,18 +2,9 @@
 use Rattle.std.proofs.Common.{◌≡◌, ◌≢◌, ℕ, List, subst, inl, inr, arith}
 use Rattle.std.specs.Prelude.{ℤ, pos, negsuc, ◌+ℤ◌, ◌-ℤ◌, ◌<ℤ◌, ◌≤ℤ◌, ◌⊎◌, ◌↔◌}
 use Rattle.std.proofs.lemmas.Int.{ints, by_lt_z}
-use Rattle.sg_defs.specs.Membership.{IsMember, IsIntegerMember, Holds}
+use Rattle.sg_defs.specs.Membership.{IsMember, IsIntegerMember}
 use Rattle.sg_defs.specs.Symmetry.{IsSymmetric, IsPseudoSymmetric, IsProperlyAbove, IsIrreducible}
-use Rattle.sg_defs.proofs.MembershipLemmas.{member-add}
-
-pub integer-add : (G : List ℕ) (x y : ℤ) → IsIntegerMember G x → IsIntegerMember G y → IsIntegerMember G (x +ℤ y)
-integer-add G (pos a) (pos b) p q = member-add G a b p q
-integer-add G (pos a) (negsuc b) p q = absurd q
-integer-add G (negsuc a) y p q = absurd p
-
-integer-holds : (H G : List ℕ) → Holds H G → (x : ℤ) → IsIntegerMember G x → IsIntegerMember H x
-integer-holds H G h (pos n) p = h n p
-integer-holds H G h (negsuc n) p = p
+use Rattle.sg_defs.proofs.MembershipLemmas.{integer-add, integer-holds}
 
 -- what is properly above a symmetric semigroup holds its Frobenius number
 above-symmetric : (G H : List ℕ) (s : IsSymmetric G) → IsProperlyAbove G H → IsIntegerMember H s.frobenius
@@ -26,10 +17,12 @@ above-symmetric G H s a =
           subst (IsIntegerMember H) e (integer-add H x (s.frobenius -ℤ x) a.more.1 (integer-holds H G a.holds (s.frobenius -ℤ x) other))
     ]
 
+-- what is in both is in their meet
 both-members : (G H K : List ℕ) → ((n : ℕ) → IsMember G n ↔ (IsMember H n × IsMember K n)) → (x : ℤ) → IsIntegerMember H x → IsIntegerMember K x → IsIntegerMember G x
 both-members G H K meet (pos n) p q = (meet n).1 (p, q)
 both-members G H K meet (negsuc n) p q = p
 
+-- a symmetric semigroup is irreducible
 pub symmetric-irreducible : (G : List ℕ) → IsSymmetric G → IsIrreducible G
 symmetric-irreducible G s H K a b meet =
     s.is_frobenius.outside (both-members G H K meet s.frobenius (above-symmetric G H s a) (above-symmetric G K s b))
@@ -54,6 +47,7 @@ above-pseudo_symmetric G H s a = elim (same_or_other (pos a.more.0) s.half) [
         (λ (l : x <ℤ y). inr (λ e. omega (arith, ints, l, e)))
         (λ (h : y ≤ℤ x). by_lt_z y x (λ (l : y <ℤ x). inr (λ e. omega (arith, ints, l, e))) (λ (k : x ≤ℤ y). inl (omega (arith, ints, h, k))))
 
+-- so is a pseudo-symmetric one
 pub pseudo_symmetric-irreducible : (G : List ℕ) → IsPseudoSymmetric G → IsIrreducible G
 pseudo_symmetric-irreducible G s H K a b meet =
     s.is_frobenius.outside (both-members G H K meet (s.half +ℤ s.half) (above-pseudo_symmetric G H s a) (above-pseudo_symmetric G K s b))
