@@ -14,9 +14,11 @@ use Rattle.sg_script.specs.Depth.{IsDeep}
 use Rattle.sg_script.specs.Faults.{IsSameFault}
 use Rattle.sg_script.specs.Outcome.{IsReadAs, torn, unparsed, Tells, IsMadeOf}
 
+-- a list of tokens without length is empty
 pub empty-list : (xs : List Token) → (length xs == 0) ≡ true → xs ≡ []
 empty-list xs e = nil_from_length xs (grind (arith, nat_tests))
 
+-- and one with a length is not
 pub filled-list : (xs : List Token) → (length xs == 0) ≡ false → xs ≡ [] → ⊥
 filled-list xs e n = let test = subst (λ ys. (length ys == 0) ≡ false) n e in absurd (cc)
 

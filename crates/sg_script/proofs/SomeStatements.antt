@@ -8,10 +8,10 @@ use Rattle.sg_token.specs.declared.symbol.Symbol.TheVariants as symbol
 use Rattle.sg_tree.specs.Tree.{Tree, Code, nothing, quit, assign, choose, each, perform, block, arms}
 use Rattle.sg_script.specs.Bodies.{ends_body, EndsBody, EndsChoice, Choice, Repetition}
 use Rattle.sg_script.specs.Grammar.{Arm, Elifs, Otherwise, Body, OneOf, IsStatement, the_last, a_statement}
-use Rattle.sg_script.specs.Reading.{Found, Closed, Always}
-use Rattle.sg_script.specs.Signs.{binding}
-use Rattle.sg_script.proofs.Fronts.{Front, symbol-front, word-front, name-front}
-use Rattle.sg_script.proofs.SomeExpressions.{Strictly, Loosely, behind, behind-two, then-loosely, closed-read, expression-read}
+use Rattle.sg_expression.specs.Reading.{Found, Closed, Always}
+use Rattle.sg_expression.specs.Binding.{binding}
+use Rattle.sg_expression.proofs.Fronts.{Front, symbol-front, word-front, name-front}
+use Rattle.sg_expression.proofs.SomeExpressions.{Strictly, Loosely, behind, behind-two, then-loosely, closed-read, expression-read}
 use Rattle.sg_script.proofs.StatementLemmas.{found-nothing, found-assigned, no-assigned, found-if, no-if, found-for, no-for, IsPlain, found-performed, no-performed, one-of-body, no-body, end-body, found-arm, no-arm-test, no-arm-body, one-elif, no-elif, end-elifs, found-fi, found-else, no-else-body, no-else-end, no-otherwise, found-choice, no-choice-arm, no-choice-elifs, no-choice-other, no-choice-end, found-repetition, no-repetition-list, no-repetition-body, no-repetition-end, no-repetition-name}
 use Rattle.sg_script.proofs.UniqueStatementLemmas.{quit-alone, not-the-last}
 
@@ -184,6 +184,7 @@ one-made ts other (inl f) = at f.0 f.1 f.2
     at c [] f = inl (c, a_statement f.is)
     at c (u ∷ us) f = inr (λ d s. let e = f.only d [] (not-the-last other s) tt in let g : ◌≡◌ {A = List Token} [] (u ∷ us) = e.1 in cc)
 
+-- tokens are a statement, or they are none
 pub made-or_none : (ts : List Token) → Made ts
 made-or_none ts = elim (word-front word.Quit ts) [
   | inl w ↦ subst Made (sym w.1) (quit-made w.0)

@@ -5,17 +5,18 @@ use Rattle.sg_token.specs.declared.token.Token.TheVariants as token
 use Rattle.sg_token.specs.declared.word.Word.TheVariants as word
 use Rattle.sg_token.specs.declared.symbol.Symbol.TheVariants as symbol
 use Rattle.sg_tree.specs.Tree.{Tree, variable, Code, Block}
-use Rattle.sg_script.specs.declared.rank.Rank.TheVariants as rank
+use Rattle.sg_expression.specs.declared.rank.Rank.TheVariants as rank
 use Rattle.sg_script.specs.Bodies.{EndsBody, EndsChoice}
-use Rattle.sg_script.specs.Grammar.{Chain, Inner, assigned, chosen, repeated, performed, Arm, an_arm, Elifs, no_elif, one_elif, Otherwise, no_else, an_else, Body, no_more, one_more, OneOf, an_empty, an_inner, IsStatement, the_last, a_statement}
-use Rattle.sg_script.specs.Reading.{Found, Always}
-use Rattle.sg_script.specs.Signs.{StopsAt}
-use Rattle.sg_script.proofs.BeginLemmas.{starts-expression, Starts}
-use Rattle.sg_script.proofs.OnwardLemmas.{onward-found}
-use Rattle.sg_script.proofs.AtomLemmas.{found-closed}
-use Rattle.sg_script.proofs.ArgumentLemmas.{name-alone}
+use Rattle.sg_expression.specs.Grammar.{Chain}
+use Rattle.sg_script.specs.Grammar.{Inner, assigned, chosen, repeated, performed, Arm, an_arm, Elifs, no_elif, one_elif, Otherwise, no_else, an_else, Body, no_more, one_more, OneOf, an_empty, an_inner, IsStatement, the_last, a_statement}
+use Rattle.sg_expression.specs.Reading.{Found, Always}
+use Rattle.sg_expression.specs.Binding.{StopsAt}
+use Rattle.sg_expression.proofs.BeginLemmas.{starts-expression, Starts}
+use Rattle.sg_expression.proofs.OnwardLemmas.{onward-found}
+use Rattle.sg_expression.proofs.AtomLemmas.{found-closed}
+use Rattle.sg_expression.proofs.ArgumentLemmas.{name-alone}
 use Rattle.sg_script.proofs.StatementLemmas.{one-goes-on, found-nothing, found-assigned, found-if, found-for, IsPlain, found-performed, one-of-body, end-body, found-arm, arm-ends, otherwise-ends, one-elif, end-elifs, found-fi, found-else, found-choice, found-repetition}
-use Rattle.sg_script.proofs.UniqueLemmas.{one-chain}
+use Rattle.sg_expression.proofs.UniqueLemmas.{one-chain}
 
 -- what an expression and a semicolon begin with begins nothing else
 plain-expression : {ts us : List Token} {t : Tree} → Chain rank.Or ts t (token.Symbol symbol.Semicolon ∷ us) → IsPlain ts

@@ -7,6 +7,7 @@ use Rattle.sg_token.specs.declared.word.Word.{Word}
 use Rattle.sg_token.specs.declared.word.Word.TheVariants as word
 use Rattle.sg_script.specs.Grammar.{Inner}
 
+-- whether a word ends a block
 abbrev pub word_ends_body : Word → Bool
 word_ends_body word.Elif = true
 word_ends_body word.Else = true
@@ -14,6 +15,7 @@ word_ends_body word.Fi = true
 word_ends_body word.Od = true
 word_ends_body _ = false
 
+-- whether a token does
 abbrev pub token_ends_body : Token → Bool
 token_ends_body (token.Number z) = false
 token_ends_body (token.Name x) = false
@@ -26,6 +28,7 @@ abbrev pub ends_body : List Token → Bool
 ends_body [] = false
 ends_body (t ∷ ts) = token_ends_body t
 
+-- the same, as a fact
 abbrev pub EndsBody : List Token → Type 0
 EndsBody ts = ends_body ts ≡ true
 

@@ -8,11 +8,13 @@ use Rattle.sg_token.specs.declared.symbol.Symbol.{Symbol}
 use Rattle.sg_token.specs.declared.symbol.Symbol.TheVariants as symbol
 use Rattle.sg_script.specs.declared.limits.TheConstants.{NESTING_LIMIT}
 
+-- whether a word begins a block
 abbrev pub word_deepens : Word → Bool
 word_deepens word.If = true
 word_deepens word.For = true
 word_deepens _ = false
 
+-- whether a symbol opens a bracket
 abbrev pub symbol_deepens : Symbol → Bool
 symbol_deepens symbol.OpenParenthesis = true
 symbol_deepens symbol.OpenBracket = true
@@ -26,11 +28,13 @@ deepens (token.Word w) = word_deepens w
 deepens (token.Text bytes) = false
 deepens (token.Symbol s) = symbol_deepens s
 
+-- whether a word ends a block
 abbrev pub word_rises : Word → Bool
 word_rises word.Fi = true
 word_rises word.Od = true
 word_rises _ = false
 
+-- whether a symbol closes a bracket
 abbrev pub symbol_rises : Symbol → Bool
 symbol_rises symbol.CloseParenthesis = true
 symbol_rises symbol.CloseBracket = true

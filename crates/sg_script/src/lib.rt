@@ -2,18 +2,15 @@
 //!
 //! Contracts see a statement as the plain tree of `sg_tree`. The layer above uses one contract: `parse` answers the one
 //! outcome that the text is read as (`IsReadAs`): a tree, `Depth` or `Syntax`, in that order of refusals: no tokens, too
-//! deep, no statement. The grammar (`Grammar`) relates tokens and trees; it knows no meaning. Each tree is well formed.
+//! deep, no statement. The grammar (`Grammar`, over that of `sg_expression`) relates tokens and trees; it knows no
+//! meaning. Each tree is well formed.
 #![tactic(auto)]
 
-mod build;
 mod depth;
-mod expression;
 mod fault;
 pub mod laws;
 mod limits;
-mod rank;
 mod reader;
-mod sign;
 mod statement;
 #[cfg(test)]
 mod tests;

@@ -7,8 +7,8 @@ ghost use Rattle.sg_tree.specs.WellFormed.{IsWellFormedCode};
 
 use crate::depth::is_too_deep;
 use crate::fault::ParseFault;
-use crate::sign::{after_symbol, after_word};
 use crate::statement::one_statement;
+use sg_expression::{after_symbol, after_word};
 use sg_token::{Symbol, Token, TokenFault, Word, read_tokens};
 use sg_tree::Stmt;
 use std::alloc::Global;

@@ -3,14 +3,12 @@
 ghost use Rattle.std.specs.Prelude.{◌≡◌, map};
 ghost use Rattle.sg_script.specs.Bodies.{ends_body, EndsBody, Choice, Repetition};
 ghost use Rattle.sg_script.specs.Grammar.{Arm, Otherwise, Body, OneOf};
-ghost use Rattle.sg_script.specs.Reading.{Reads, Shortens, ShortensNot, Closed, Always};
-ghost use Rattle.sg_script.specs.Signs.{binding};
+ghost use Rattle.sg_expression.specs.Reading.{Reads, Shortens, ShortensNot, Closed, Always};
+ghost use Rattle.sg_expression.specs.Binding.{binding};
 ghost use Rattle.sg_token.specs.declared.token.Token.TheVariants as token;
 ghost use Rattle.sg_tree.specs.TreeView.{tree_of, code_of, block_of};
 
-use crate::expression::{chain, closed};
-use crate::rank::Rank;
-use crate::sign::{after_symbol, after_word, name_before, name_before_word};
+use sg_expression::{Rank, after_symbol, after_word, chain, closed, name_before, name_before_word};
 use sg_token::{Symbol, Token, TokenFault, Word};
 use sg_tree::{Block, Expr, Stmt};
 use std::alloc::Global;

@@ -10,9 +10,9 @@ use Rattle.sg_tree.specs.TreeView.{tree_of, code_of, block_of}
 use Rattle.sg_tree.proofs.StatementLevels.{view-Empty, view-Assign, view-If, view-For, view-Do}
 use Rattle.sg_script.specs.Bodies.{ends_body, EndsBody, EndsChoice, Choice, Repetition}
 use Rattle.sg_script.specs.Grammar.{Arm, Elifs, Otherwise, Body, OneOf}
-use Rattle.sg_script.specs.Reading.{Reads, Found, Nothing, Onward, Closed, Always}
-use Rattle.sg_script.proofs.OnwardLemmas.{onward-begin, onward-then, onward-nothing}
-use Rattle.sg_script.proofs.ExitLemmas.{reads-exit, reads-pass, onward-end}
+use Rattle.sg_expression.specs.Reading.{Reads, Found, Nothing, Onward, Closed, Always}
+use Rattle.sg_expression.proofs.OnwardLemmas.{onward-begin, onward-then, onward-nothing}
+use Rattle.sg_expression.proofs.ExitLemmas.{reads-exit, reads-pass, onward-end}
 use Rattle.sg_script.proofs.StatementLemmas.{found-nothing, found-assigned, no-assigned, found-if, no-if, found-for, no-for, IsPlain, found-performed, no-performed, one-of-body, no-body, end-body, found-arm, no-arm-test, no-arm-body, one-elif, no-elif, end-elifs, found-fi, found-else, no-else-body, no-else-end, no-otherwise, found-choice, no-choice-arm, no-choice-elifs, no-choice-other, no-choice-end, found-repetition, no-repetition-list, no-repetition-body, no-repetition-end, no-repetition-name}
 use Rattle.sg_script.proofs.statement.+statements.Goals as goal
 

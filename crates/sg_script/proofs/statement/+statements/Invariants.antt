@@ -3,7 +3,7 @@ use Rattle.sg_tree.specs.Tree.{Tree, Block}
 use Rattle.sg_tree.specs.TreeView.{tree_of, code_of, block_of}
 use Rattle.sg_script.specs.Bodies.{EndsBody, EndsChoice}
 use Rattle.sg_script.specs.Grammar.{Body, Elifs}
-use Rattle.sg_script.specs.Reading.{Onward}
+use Rattle.sg_expression.specs.Reading.{Onward}
 use Rattle.sg_script.proofs.statement.+statements.Given as goal
 
 abbrev pub decreases-one_statement : goal.decreases-one_statement

@@ -1,0 +1,13 @@
+pub mod OnwardLemmas
+pub mod BindingLemmas
+pub mod BeginLemmas
+pub mod ChainLemmas
+pub mod AtomLemmas
+pub mod ArgumentLemmas
+pub mod BracketLemmas
+pub mod Weights
+pub mod ExitLemmas
+pub mod UniqueLemmas
+pub mod WellFormedLemmas
+pub mod Fronts
+pub mod SomeExpressions

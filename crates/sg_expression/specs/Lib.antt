@@ -1,0 +1,4 @@
+pub mod Binding
+pub mod Grammar
+pub mod Literals
+pub mod Reading
