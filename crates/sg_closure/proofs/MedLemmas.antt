@@ -3,18 +3,18 @@ use Rattle.std.proofs.Common.{◌≡◌, ℕ, zero, suc, ◌+◌, ◌-◌, ◌*�
 use Rattle.std.proofs.lemmas.Bool.{cases_lt, cases_eq}
 use Rattle.std.proofs.lemmas.Nat.{mod_below}
 use Rattle.std.proofs.lemmas.List.Kept.{AllPairs-from_increasing}
-use Rattle.std.proofs.Math.Nat.{mod_self, mod-eq_of_lt}
+use Rattle.std.proofs.Math.Nat.{mod_self, mod-eq_of_lt, add-mod_right}
 use Rattle.sg_defs.specs.Membership.{IsMember, IsNumericalSemigroup, IsMinimal, IsMultiplicity}
-use Rattle.sg_defs.specs.Apery.{IsApery}
 use Rattle.sg_defs.specs.Closures.{IsMed}
 use Rattle.sg_defs.proofs.MembershipLemmas.{member-add, member-entry, member-times}
 use Rattle.sg_apery.proofs.AperyLemmas.{congruent-split}
 use Rattle.sg_apery.proofs.GeneratorLemmas.{member-split}
+use Rattle.sg_apery.proofs.ResidueLemmas.{member-residue}
 use Rattle.sg_closure.proofs.CoverLemmas.{IsShuffle, shuffle-covers, different-few}
 use Rattle.sg_defs.proofs.MinimalLemmas.{first-multiplicity, no_sum}
 use Rattle.sg_defs.proofs.OneLemmas.{one-multiplicity}
 
-module _ (G t : List ℕ) (m : ℕ) (s : IsNumericalSemigroup G) (minimal : IsMinimal G) (multiplicity : IsMultiplicity G m) (apery : IsApery G m t) where
+module _ (G : List ℕ) (m : ℕ) (s : IsNumericalSemigroup G) (minimal : IsMinimal G) (multiplicity : IsMultiplicity G m) where
   -- a minimal generator is no greater member's sum with a multiple of the multiplicity
   no_turns : (k c n : ℕ) → k < length G → 0 < n → IsMember G n → n < get_or G k 0 → get_or G k 0 ≡ n + c * m → ⊥
   no_turns k zero n l p q less e = omega (arith, less, e)
@@ -60,33 +60,47 @@ module _ (G t : List ℕ) (m : ℕ) (s : IsNumericalSemigroup G) (minimal : IsMi
             lower r.0 c.0 (x + y) l c.1 (no_sum G minimal r.0 l x y p q in_x in_y)
       ]
 
-  -- where the embedding dimension is maximal, each residue class has a generator
+  -- the generator that is the multiplicity leaves the residue 0
+  first-class : (k : ℕ) × (k < length G) × (get_or G k 0 % m ≡ 0)
+  first-class = elim (member-split G m multiplicity.member) [
+    | inl e ↦ absurd (omega (arith, multiplicity.positive, e))
+    | inr p ↦
+        let low = multiplicity.least (get_or G p.0 0) (omega (arith, s.positive p.0 0 p.2)) (member-entry G p.0 p.2) in
+        let e : get_or G p.0 0 ≡ m = omega (arith, low, p.4) in
+        (p.0, p.2, ap (λ n. n % m) e ∙ mod_self m)
+  ]
+
+  -- where the embedding dimension is maximal, a member that is no generator leads to a lesser one of its class
+  class-from : ((x y : ℕ) → 0 < x → 0 < y → IsMember G x → IsMember G y → IsMember G (x + y - m)) →
+      (b n : ℕ) → n < b → IsMember G n → (n % m ≡ 0 → ⊥) → (k : ℕ) × (k < length G) × (get_or G k 0 % m ≡ n % m)
+  class-from med zero n l member other = absurd (omega arith)
+  class-from med (suc b) n l member other = elim (member-split G n member) [
+    | inl e ↦ absurd (other (ap (λ x. x % m) e ∙ mod-eq_of_lt multiplicity.positive))
+    | inr p ↦ elim (cases_eq p.1 0) [
+      | inl alone ↦
+          let e : get_or G p.0 0 ≡ n = omega (arith, alone, p.4) in
+          (p.0, p.2, ap (λ x. x % m) e)
+      | inr more ↦
+          let g : 0 < get_or G p.0 0 = omega (arith, s.positive p.0 0 p.2) in
+          let low = multiplicity.least (get_or G p.0 0) g (member-entry G p.0 p.2) in
+          let e : p.1 + get_or G p.0 0 - m ≡ n - m = omega (arith, p.4) in
+          let q = subst (IsMember G) e (med p.1 (get_or G p.0 0) (omega (arith, more)) g p.3 (member-entry G p.0 p.2)) in
+          let back : (n - m) + m ≡ n = omega (arith, low, p.4) in
+          let same : (n - m) % m ≡ n % m = sym (add-mod_right (n - m) m) ∙ ap (λ x. x % m) back in
+          let r = class-from med b (n - m) (omega (arith, multiplicity.positive, low, p.4, l)) q (λ e. other (sym same ∙ e)) in
+          (r.0, r.1, r.2 ∙ same)
+    ]
+  ]
+
+  -- so each residue class has a generator
   class-generator : ((x y : ℕ) → 0 < x → 0 < y → IsMember G x → IsMember G y → IsMember G (x + y - m)) →
       (i : ℕ) → i < m → (k : ℕ) × (k < length G) × (get_or G k 0 % m ≡ i)
   class-generator med i l = elim (cases_eq i 0) [
-    | inl none ↦ elim (member-split G m multiplicity.member) [
-      | inl e ↦ absurd (omega (arith, multiplicity.positive, e))
-      | inr p ↦
-          let low = multiplicity.least (get_or G p.0 0) (omega (arith, s.positive p.0 0 p.2)) (member-entry G p.0 p.2) in
-          let e : get_or G p.0 0 ≡ m = omega (arith, low, p.4) in
-          (p.0, p.2, ap (λ n. n % m) e ∙ mod_self m ∙ sym none)
-    ]
-    | inr some ↦ elim (member-split G (get_or t i 0) (apery.member i l)) [
-      | inl e ↦
-          let f : 0 % m ≡ i = ap (λ n. n % m) (sym e) ∙ apery.residue i l in
-          let g : 0 % m ≡ 0 = mod-eq_of_lt multiplicity.positive in
-          absurd (some (sym f ∙ g))
-      | inr p ↦ elim (cases_eq p.1 0) [
-        | inl alone ↦
-            let e : get_or G p.0 0 ≡ get_or t i 0 = omega (arith, alone, p.4) in
-            (p.0, p.2, ap (λ n. n % m) e ∙ apery.residue i l)
-        | inr more ↦
-            let g : 0 < get_or G p.0 0 = omega (arith, s.positive p.0 0 p.2) in
-            let low = multiplicity.least (get_or G p.0 0) g (member-entry G p.0 p.2) in
-            let q = med p.1 (get_or G p.0 0) (omega (arith, more)) g p.3 (member-entry G p.0 p.2) in
-            absurd (apery.least i (p.1 + get_or G p.0 0 - m) l (omega (arith, low, p.4)) q)
-      ]
-    ]
+    | inl none ↦ (first-class.0, first-class.1, first-class.2 ∙ sym none)
+    | inr some ↦
+        let n = member-residue G m i s l in
+        let r = class-from med (n.0 + 1) n.0 (omega arith) n.1 (λ e. some (sym n.2 ∙ e)) in
+        (r.0, r.1, r.2 ∙ n.2)
   ]
 
   full-from_med : ((x y : ℕ) → 0 < x → 0 < y → IsMember G x → IsMember G y → IsMember G (x + y - m)) → length G ≡ m
@@ -99,10 +113,11 @@ module _ (G t : List ℕ) (m : ℕ) (s : IsNumericalSemigroup G) (minimal : IsMi
       generator : (i : ℕ) → (k : ℕ) × (k < length G) × (get_or G k 0 % m ≡ i % m)
       generator i = class-generator med (i % m) (mod_below i m multiplicity.positive)
 
-pub med-by_length : (G t : List ℕ) → IsNumericalSemigroup G → IsMinimal G → IsApery G (get_or G 0 0) t → (length G ≡ get_or G 0 0) ↔ IsMed G
-med-by_length G t s minimal apery =
+-- as many generators as the multiplicity, where a minimal list is seen alone
+pub med-by_length : (G : List ℕ) → IsNumericalSemigroup G → IsMinimal G → (length G ≡ get_or G 0 0) ↔ IsMed G
+med-by_length G s minimal =
     let first = first-multiplicity G s minimal in (
-      (λ full. (get_or G 0 0, first, med-from_full G t (get_or G 0 0) s minimal first apery full)),
-      (λ med. full-from_med G t (get_or G 0 0) s minimal first apery (λ x y p q a b.
+      (λ full. (get_or G 0 0, first, med-from_full G (get_or G 0 0) s minimal first full)),
+      (λ med. full-from_med G (get_or G 0 0) s minimal first (λ x y p q a b.
           subst (λ n. IsMember G (x + y - n)) (one-multiplicity G med.0 (get_or G 0 0) med.1 first) (med.2 x y p q a b))),
     )

@@ -14,5 +14,5 @@ mod saturated;
 mod tests;
 
 pub use arf::{arf_closure, is_arf};
-pub use med::{is_med, med_closure};
+pub use med::{is_med, is_med_by_generators, med_closure};
 pub use saturated::{is_saturated, saturated_closure};

@@ -14,11 +14,20 @@ use std::alloc::{AllocError, Global};
 
 /// Whether there are as many minimal generators as the multiplicity, the most that there can be: then `x + y - m` is a
 /// member for all members `x` and `y` above 0 and the multiplicity `m` (Rosales and Garcia-Sanchez, Numerical
-/// Semigroups, 2009, Proposition 3.12). It takes no memory.
+/// Semigroups, 2009, Proposition 3.12). It needs no table and takes no memory.
+pub fn is_med_by_generators(generators: &Nats) -> bool
+    requires semigroup { IsNumericalSemigroup generators.now }
+    requires minimal { IsMinimal generators.now }
+    ensures { IsTrue result ↔ IsMed generators.now }
+{
+    generators.len() as u64 == generators.as_slice()[0]
+}
+
+/// The same of a table's semigroup.
 pub fn is_med(table: &Table) -> bool
     ensures { IsTrue result ↔ IsMed table.now }
 {
-    table.generators().len() == table.apery().len()
+    is_med_by_generators(table.generators())
 }
 
 /// The multiplicity itself, or its difference with a greater generator.

@@ -1,10 +1,11 @@
 //! Laws over the definitions, each the contract of a function that does nothing.
 
-ghost use Rattle.std.specs.Prelude.{ℕ, List};
-ghost use Rattle.sg_defs.specs.Closures.{IsSaturated, IsSaturatedClosure};
+ghost use Rattle.std.specs.Prelude.{◌≡◌, ◌⊎◌, ◌↔◌, ◌-ℤ◌, ℕ, ℤ, List, length, slice_index};
+ghost use Rattle.sg_defs.specs.Closures.{IsMed, IsSaturated, IsSaturatedClosure};
 ghost use Rattle.sg_defs.specs.Decomposition.{IsDecomposition};
-ghost use Rattle.sg_defs.specs.Membership.{IsNumericalSemigroup};
-ghost use Rattle.sg_defs.specs.Symmetry.{IsSymmetric, IsPseudoSymmetric, IsIrreducible};
+ghost use Rattle.sg_defs.specs.Invariants.{IsFrobenius};
+ghost use Rattle.sg_defs.specs.Membership.{IsIntegerMember, IsMinimal, IsNumericalSemigroup};
+ghost use Rattle.sg_defs.specs.Symmetry.{IsSymmetric, IsPseudoSymmetric, IsIrreducible, IsReducible};
 ghost use Rattle.sg_exist.specs.Decided.{Decided};
 
 /// Of each numerical semigroup it is decided whether it is symmetric, pseudo-symmetric and irreducible (Rosales and
@@ -13,6 +14,22 @@ pub fn symmetry_is_decided()
     ensures symmetric { (G : List ℕ) → IsNumericalSemigroup G → Decided (IsSymmetric G) }
     ensures pseudo_symmetric { (G : List ℕ) → IsNumericalSemigroup G → Decided (IsPseudoSymmetric G) }
     ensures irreducible { (G : List ℕ) → IsNumericalSemigroup G → Decided (IsIrreducible G) }
+{}
+
+/// What is not of a kind shows it. A numerical semigroup that is not symmetric has an integer such that neither it nor its
+/// difference from the Frobenius number is a member; one that is irreducible is symmetric or pseudo-symmetric, and one
+/// that is neither is the intersection of two numerical semigroups properly above it (Rosales and Garcia-Sanchez,
+/// chapter 3).
+pub fn a_semigroup_of_no_kind_shows_it()
+    ensures symmetric { (G : List ℕ) (f : ℤ) → IsNumericalSemigroup G → IsFrobenius G f → (IsSymmetric G → ⊥) → (x : ℤ) × (IsIntegerMember G x → ⊥) × (IsIntegerMember G (f -ℤ x) → ⊥) }
+    ensures irreducible { (G : List ℕ) → IsNumericalSemigroup G → IsIrreducible G ↔ (IsSymmetric G ⊎ IsPseudoSymmetric G) }
+    ensures reducible { (G : List ℕ) → IsNumericalSemigroup G → (IsSymmetric G → ⊥) → (IsPseudoSymmetric G → ⊥) → IsReducible G }
+{}
+
+/// A numerical semigroup is of maximal embedding dimension exactly where it has as many minimal generators as its
+/// multiplicity says, which is the first of them (Rosales and Garcia-Sanchez, Proposition 3.12).
+pub fn maximal_embedding_dimension_is_counted()
+    ensures { (G : List ℕ) → IsNumericalSemigroup G → IsMinimal G → IsMed G ↔ (length G ≡ slice_index G 0) }
 {}
 
 /// Each numerical semigroup has a decomposition by its special gaps.

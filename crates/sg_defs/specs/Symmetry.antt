@@ -30,3 +30,11 @@ pub record IsProperlyAbove (G H : List ℕ) : Type 0 where
 abbrev pub IsIrreducible : List ℕ → Type 0
 IsIrreducible G = (H K : List ℕ) → IsProperlyAbove G H → IsProperlyAbove G K →
     ((n : ℕ) → IsMember G n ↔ (IsMember H n × IsMember K n)) → ⊥
+
+-- two numerical semigroups properly above G meet in it
+pub record IsReducible (G : List ℕ) : Type 0 where
+  pub first : List ℕ
+  pub second : List ℕ
+  pub first_above : IsProperlyAbove G first
+  pub second_above : IsProperlyAbove G second
+  pub meet : (n : ℕ) → IsMember G n ↔ (IsMember first n × IsMember second n)

@@ -1,5 +1,5 @@
 -- Relative ideals as contracts see them.
-use Rattle.std.specs.Prelude.{◌≡◌, ℕ, zero, suc, ◌+ℤ◌, ◌*◌, ◌-◌, ◌<◌, ℤ, pos, negsuc, ◌-ℤ◌, slice_index_or, ◌≤ℤ◌, ◌↔◌, List, length, Contains}
+use Rattle.std.specs.Prelude.{◌≡◌, ℕ, zero, suc, ◌+ℤ◌, ◌-◌, ◌<◌, ℤ, pos, negsuc, ◌-ℤ◌, slice_index_or, ◌≤ℤ◌, ◌↔◌, List, length, Contains}
 use Rattle.sg_defs.specs.Ideals.{IsIdealMember, IsMinimalIdeal}
 pub use Rattle.sg_lawful.specs.Generators.{IsSmall, IsLarge, AreSmall, HasLarge}
 use Rattle.sg_apery.specs.declared.limits.TheConstants.{APERY_ENTRY_LIMIT}

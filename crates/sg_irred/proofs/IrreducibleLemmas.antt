@@ -5,7 +5,7 @@ use Rattle.std.specs.Prelude.{◌⊎◌, pos}
 use Rattle.std.proofs.lemmas.Bool.{cases_lt}
 use Rattle.sg_defs.specs.Membership.{IsMember}
 use Rattle.sg_defs.specs.Invariants.{IsFrobenius, IsGap}
-use Rattle.sg_defs.specs.Symmetry.{IsIrreducible}
+use Rattle.sg_defs.specs.Symmetry.{IsIrreducible, IsReducible}
 use Rattle.sg_defs.proofs.MembershipLemmas.{member-zero, member-add}
 use Rattle.sg_irred.proofs.CountLemmas.{never, count-none, count-single, greatest-with}
 use Rattle.sg_irred.proofs.MirrorLemmas.{pair_test, pairs, beyond, gap-within, paired-gaps, gaps-paired, paired-mirror}
@@ -68,13 +68,14 @@ module _ (G : List ℕ) (F : ℕ) (h : IsFrobenius G (pos F)) (split : (n : ℕ)
     | inr more ↦ absurd ((paired-gaps G F h split x b).1 (subst (IsMember G) (let e : 0 ≡ F - x = omega arith in e) (member-zero G)))
   ]
 
-  pub reducible : 2 ≤ pairs G split F → IsIrreducible G → ⊥
-  reducible two irreducible = elim (greatest-with (pair_test G split F) (suc F)) [
+  -- two or more such gaps tell two semigroups above, of one gap more each, that meet in it
+  pub parts : 2 ≤ pairs G split F → IsReducible G
+  parts two = elim (greatest-with (pair_test G split F) (suc F)) [
     | inl found ↦ parted found.0 found.1 found.2 found.3
-    | inr none ↦ omega (arith, two, count-none (pair_test G split F) (suc F) none)
+    | inr none ↦ absurd (omega (arith, two, count-none (pair_test G split F) (suc F) none))
   ]
     where
-      parted : (x : ℕ) → x < suc F → pair_test G split F x ≡ true → ((y : ℕ) → x < y → y < suc F → pair_test G split F y ≡ false) → ⊥
+      parted : (x : ℕ) → x < suc F → pair_test G split F x ≡ true → ((y : ℕ) → x < y → y < suc F → pair_test G split F y ≡ false) → IsReducible G
       parted x l b last =
           let below = below-frobenius x l b in
           let some : 0 < F = omega arith in
@@ -82,11 +83,20 @@ module _ (G : List ℕ) (F : ℕ) (h : IsFrobenius G (pos F)) (split : (n : ℕ)
           let second = addable-frobenius some in
           let here = beyond G F h split (F + 1) (omega arith) in
           let next = beyond G F h split (F + 1 + 1) (omega arith) in
-          irreducible (with_gap G x) (with_gap G F) (added-above G x (F + 1) here next first) (added-above G F (F + 1) here next second)
-          (λ n. (
-            (λ m. (added-holds G x n m, added-holds G F n m)),
-            (λ m. elim (added-member G x n first m.0) [
-              | inl member ↦ member
-              | inr e ↦ elim (added-member G F n second m.1) [ inl member ↦ member | inr f ↦ absurd (omega (arith, below, e, f)) ]
-            ]),
-          ))
+          record {
+            first = with_gap G x;
+            second = with_gap G F;
+            first_above = added-above G x (F + 1) here next first;
+            second_above = added-above G F (F + 1) here next second;
+            meet = λ n. (
+              (λ m. (added-holds G x n m, added-holds G F n m)),
+              (λ m. elim (added-member G x n first m.0) [
+                | inl member ↦ member
+                | inr e ↦ elim (added-member G F n second m.1) [ inl member ↦ member | inr f ↦ absurd (omega (arith, below, e, f)) ]
+              ]),
+            );
+          }
+
+  -- so it is not irreducible
+  pub reducible : 2 ≤ pairs G split F → IsIrreducible G → ⊥
+  reducible two irreducible = let r = parts two in irreducible r.first r.second r.first_above r.second_above r.meet

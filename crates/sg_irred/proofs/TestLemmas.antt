@@ -1,16 +1,17 @@
 -- What the genus and the Frobenius number tell of symmetry and irreducibility.
-use Rattle.std.proofs.Common.{◌≡◌, ℕ, zero, suc, ◌+◌, ◌*◌, ◌↔◌, List, length, get_or, subst, inl, inr, arith}
+use Rattle.std.proofs.Common.{◌≡◌, ℕ, zero, suc, ◌+◌, ◌-◌, ◌*◌, ◌↔◌, List, length, get_or, sym, subst, inl, inr, arith}
 use Rattle.std.specs.Prelude.{◌⊎◌, ℤ, pos, negsuc, ◌+ℤ◌, ◌-ℤ◌, ◌≤ℤ◌}
 use Rattle.std.proofs.lemmas.Bool.{cases_eq}
 use Rattle.std.proofs.lemmas.Int.{ints}
 use Rattle.std.proofs.lemmas.List.Elements.{Contains-get_or}
 use Rattle.sg_defs.specs.Membership.{IsMember, IsIntegerMember}
 use Rattle.sg_defs.specs.Invariants.{IsFrobenius, IsConductor, IsGap, IsGenus}
-use Rattle.sg_defs.specs.Symmetry.{ExactlyOne, IsSymmetric, IsPseudoSymmetric, IsIrreducible}
-use Rattle.sg_irred.proofs.MirrorLemmas.{pairs, twice-genus, symmetric-from_none, none-from_symmetric, pseudo_symmetric-from_one, one-from_pseudo_symmetric}
+use Rattle.sg_defs.specs.Symmetry.{ExactlyOne, IsSymmetric, IsPseudoSymmetric, IsIrreducible, IsReducible}
+use Rattle.sg_irred.proofs.CountLemmas.{count-none, greatest-with}
+use Rattle.sg_irred.proofs.MirrorLemmas.{pair_test, paired-gaps, pairs, twice-genus, symmetric-from_none, none-from_symmetric, pseudo_symmetric-from_one, one-from_pseudo_symmetric}
 use Rattle.sg_defs.proofs.OneLemmas.{one-frobenius}
 use Rattle.sg_defs.proofs.SymmetryLemmas.{symmetric-irreducible, pseudo_symmetric-irreducible}
-use Rattle.sg_irred.proofs.IrreducibleLemmas.{reducible}
+use Rattle.sg_irred.proofs.IrreducibleLemmas.{parts, reducible}
 
 -- where the Frobenius number is -1 there are no gaps, and the semigroup is symmetric
 module _ (G : List ℕ) (h : IsFrobenius G (negsuc 0)) where
@@ -83,6 +84,34 @@ irreducible-told G f g h low split genus = (
   ]),
   irreducible-tells G f g h low split genus,
 )
+
+-- what is neither is the meet of two semigroups properly above
+pub neither-reducible : (G : List ℕ) (f : ℤ) → IsFrobenius G f → negsuc 0 ≤ℤ f → ((n : ℕ) → IsMember G n ⊎ IsGap G n) → (IsSymmetric G → ⊥) → (IsPseudoSymmetric G → ⊥) → IsReducible G
+neither-reducible G (pos F) h low split not nor = elim (cases_eq (pairs G split F) 0) [
+  | inl none ↦ absurd (not (symmetric-from_none G F h split none))
+  | inr some ↦ elim (cases_eq (pairs G split F) 1) [
+    | inl one ↦ absurd (nor (pseudo_symmetric-from_one G F h split one))
+    | inr more ↦ parts G F h split (omega arith)
+  ]
+]
+neither-reducible G (negsuc zero) h low split not nor = absurd (not (naturals-symmetric G h))
+neither-reducible G (negsuc (suc k)) h low split not nor = absurd (omega (arith, ints, low))
+
+-- neither x nor f - x is a member
+abbrev pub IsUnmirrored : List ℕ → ℤ → ℤ → Type 0
+IsUnmirrored G f x = (IsIntegerMember G x → ⊥) × (IsIntegerMember G (f -ℤ x) → ⊥)
+
+-- what is not symmetric has such an integer for its Frobenius number
+pub unmirrored-exists : (G : List ℕ) (f : ℤ) → IsFrobenius G f → negsuc 0 ≤ℤ f → ((n : ℕ) → IsMember G n ⊎ IsGap G n) → (IsSymmetric G → ⊥) → (x : ℤ) × IsUnmirrored G f x
+unmirrored-exists G (pos F) h low split not = elim (greatest-with (pair_test G split F) (suc F)) [
+  | inl found ↦
+      let g = paired-gaps G F h split found.0 found.2 in
+      let e : pos (F - found.0) ≡ pos F -ℤ pos found.0 = let l = found.1 in omega (arith, ints, l) in
+      (pos found.0, (g.0, λ m. g.1 (subst (IsIntegerMember G) (sym e) m)))
+  | inr none ↦ absurd (not (symmetric-from_none G F h split (count-none (pair_test G split F) (suc F) none)))
+]
+unmirrored-exists G (negsuc zero) h low split not = absurd (not (naturals-symmetric G h))
+unmirrored-exists G (negsuc (suc k)) h low split not = absurd (omega (arith, ints, low))
 
 -- the same by the conductor c, where f is c less 1
 module _ (G : List ℕ) (c g : ℕ) (h : IsConductor G c) (split : (n : ℕ) → IsMember G n ⊎ IsGap G n) (genus : IsGenus G g) where

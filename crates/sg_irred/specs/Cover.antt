@@ -1,5 +1,5 @@
 -- The least numbers of a cover in their residue classes.
-use Rattle.std.specs.Prelude.{◌≡◌, ℕ, ℤ, pos, ◌≤ℤ◌, slice_index_or, ◌+◌, ◌%◌, ◌*◌, ◌<◌, List, length, slice_index}
+use Rattle.std.specs.Prelude.{◌≡◌, ℕ, ℤ, pos, ◌≤ℤ◌, slice_index_or, ◌+◌, ◌%◌, ◌<◌, List, length, slice_index}
 use Rattle.sg_defs.specs.Decomposition.{IsInCover}
 use Rattle.sg_apery.specs.declared.limits.TheConstants.{APERY_ENTRY_LIMIT}
 
