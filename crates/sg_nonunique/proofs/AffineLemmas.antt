@@ -7,7 +7,7 @@ use Rattle.sg_defs.specs.Vectors.{plus, scale}
 use Rattle.sg_defs.proofs.VectorLemmas.{length-plus}
 use Rattle.sg_nonunique.specs.Affine.{vector_value_of, IsAffineSemigroup}
 use Rattle.sg_nonunique.specs.Places.{raise, lower}
-use Rattle.sg_nonunique.proofs.SumLemmas.{get_or-plus, sum_positive, zero_or_positive}
+use Rattle.sg_nonunique.proofs.SumLemmas.{get_or-plus, get_or-zeros, sum_positive, zero_or_positive}
 use Rattle.sg_nonunique.proofs.PlaceLemmas.{inside, raise-lower, length-lower}
 
 pub length-scale : (n : ℕ) (a : List ℕ) → length (scale n a) ≡ length a
@@ -73,6 +73,34 @@ module _ (d : ℕ) where
       vector_value_of d A z ≡ plus (vector_value_of d A (lower z i)) (get_or A i [])
   vector_value-lower A z i h e p =
       ap (vector_value_of d A) (sym (raise-lower z i p)) ∙ vector_value-raise A (lower z i) i h (length-lower z i ∙ e) (omega (arith, inside z i p, e))
+
+-- the value of a sum, place by place
+value-plus_at : (d : ℕ) (A : List (List ℕ)) (x y : List ℕ) → All (λ a. length a ≡ d) A → length x ≡ length A → length y ≡ length A →
+    (k : ℕ) → get_or (vector_value_of d A (plus x y)) k 0 ≡ get_or (vector_value_of d A x) k 0 + get_or (vector_value_of d A y) k 0
+value-plus_at d [] x y h e f k = omega (arith, get_or-zeros d k)
+value-plus_at d (a ∷ A) [] y h e f k = absurd (omega arith)
+value-plus_at d (a ∷ A) (m ∷ x) [] h e f k = absurd (omega arith)
+value-plus_at d (a ∷ A) (m ∷ x) (n ∷ y) h e f k =
+    let first = All-head (λ a. length a ≡ d) a A h in
+    let rest = All-tail (λ a. length a ≡ d) a A h in
+    omega (
+      arith,
+      value-cons d a A (m + n) (plus x y) k first rest,
+      value-cons d a A m x k first rest,
+      value-cons d a A n y k first rest,
+      value-plus_at d A x y rest (omega arith) (omega arith) k,
+    )
+
+-- the value of a sum is the sum of the values
+pub vector_value-plus : (d : ℕ) (A : List (List ℕ)) (x y : List ℕ) → All (λ a. length a ≡ d) A → length x ≡ length A → length y ≡ length A →
+    vector_value_of d A (plus x y) ≡ plus (vector_value_of d A x) (vector_value_of d A y)
+vector_value-plus d A x y h e f =
+    let u = vector_value_of d A x in
+    let v = vector_value_of d A y in
+    let len : length u ≡ length v = length-vector_value d A x h ∙ sym (length-vector_value d A y h) in
+    ext_get_or 0 (vector_value_of d A (plus x y)) (plus u v)
+    (length-vector_value d A (plus x y) h ∙ sym (length-plus u v len ∙ length-vector_value d A x h))
+    (λ k _. value-plus_at d A x y h e f k ∙ sym (get_or-plus u v k len))
 
 -- a generator of an affine semigroup has a positive place
 pub generator-positive : (d : ℕ) (A : List (List ℕ)) → IsAffineSemigroup d A → (i : ℕ) → i < length A → 0 < sum (get_or A i [])

@@ -1,0 +1,14 @@
+pub mod Families
+pub mod ClassLemmas
+pub mod StepLemmas
+pub mod SpareLemmas
+pub mod CanonicalLemmas
+pub mod CanonicalExists
+pub mod DistanceLemmas
+pub mod ChainLemmas
+pub mod GapLemmas
+pub mod GcdLemmas
+pub mod DifferenceLemmas
+pub mod PlaceClasses
+pub mod ClassOrder
+pub mod BettiLemmas

@@ -1,0 +1,3 @@
+pub mod PlaceGraph
+pub mod Candidates
+pub mod Bounds
