@@ -4,23 +4,14 @@ use Rattle.std.specs.Prelude.{◌⊎◌, All}
 use Rattle.std.proofs.lemmas.Bool.{cases_lt, cases_eq}
 use Rattle.sg_defs.specs.Vectors.{value_of}
 use Rattle.sg_defs.specs.Membership.{IsFactorization, IsMember}
+use Rattle.sg_defs.proofs.DecidedLemmas.{member-decided}
 use Rattle.sg_defs.proofs.VectorLemmas.{value_of-zeros}
 use Rattle.sg_nonunique.specs.Places.{raise, lower}
 use Rattle.sg_nonunique.specs.Classes.{IsSameClass, HasTwoClasses}
 use Rattle.sg_nonunique.proofs.PlaceLemmas.{inside, length-raise, length-lower, raise-same, raise-other, value_of-raise, value_of-lower}
 use Rattle.sg_nonunique.proofs.SumLemmas.{zero_or_positive}
-use Rattle.sg_finite.specs.Listing.{all_factorizations}
-use Rattle.sg_finite.proofs.FactorizationLemmas.{factorizations-listed}
-use Rattle.sg_finite.proofs.SearchLemmas.{listed-empty}
 use Rattle.sg_families.specs.Candidates.{IsBettiCandidate}
 use Rattle.sg_families.proofs.ClassLemmas.{class-here, class-step, class-then, class-back}
-
--- whether a number is a member is decided
-pub member-decided : (G : List ℕ) → All (λ g. 1 ≤ g) G → (n : ℕ) → IsMember G n ⊎ ¬ IsMember G n
-member-decided G positive n = elim (listed-empty (IsFactorization G n) (all_factorizations G n) (factorizations-listed G n positive).exactly) [
-  | inl found ↦ inl found
-  | inr none ↦ inr (λ h. none h.0 h.1)
-]
 
 module _ (G : List ℕ) (positive : All (λ g. 1 ≤ g) G) (n : ℕ) where
   -- 0 has the zero vector alone
@@ -74,7 +65,7 @@ module _ (G : List ℕ) (positive : All (λ g. 1 ≤ g) G) (n : ℕ) where
           entry = record { member = member; residue = refl; least = λ y e q. omega (arith, less, e) };
           sum = total;
         })
-        | inr more ↦ elim (member-decided G positive (rest - get_or G 0 0)) [
+        | inr more ↦ elim (member-decided G (rest - get_or G 0 0)) [
           | inl m ↦ inr (joining x f j rest h after in_range total more m)
           | inr never ↦ inl (record {
             place = j;

@@ -5,10 +5,11 @@ use Rattle.std.specs.Prelude.{◌⊎◌, ◌↔◌, AllPairs, Contains}
 use Rattle.std.proofs.lemmas.List.Elements.{Contains-append_left, Contains-append_right, Contains-append_cases}
 use Rattle.std.proofs.lemmas.Bool.{cases_order}
 use Rattle.sg_defs.specs.Vectors.{IsLexBelow, ListsDescending}
+use Rattle.sg_defs.proofs.ListLemmas.{contains-cases}
 use Rattle.sg_nonunique.specs.Classes.{IsSameClass, HasTwoClasses}
 use Rattle.sg_nonunique.specs.Presentations.{Relation, IsLexGreatest, IsCanonicalRelation, IsCanonical}
 use Rattle.sg_nonunique.proofs.OrderLemmas.{lex-irreflexive, lex-then}
-use Rattle.sg_finite.proofs.ElementLemmas.{contains-nil, contains-cases, here, later, contains-map, from-map, pairs-nil, pairs-first, pairs-tail, pairs-append, pairs-map}
+use Rattle.sg_finite.proofs.ElementLemmas.{contains-nil, here, later, contains-map, from-map, pairs-nil, pairs-first, pairs-tail, pairs-append, pairs-map}
 use Rattle.sg_finite.proofs.KeepLemmas.{keep, keep-pairs, keep-exactly}
 use Rattle.sg_finite.proofs.SearchLemmas.{each-decided}
 use Rattle.sg_finite.proofs.SetLemmas.{class-decided}

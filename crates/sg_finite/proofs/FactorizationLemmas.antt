@@ -7,8 +7,9 @@ use Rattle.std.proofs.lemmas.List.Kept.{AllPairs-cons}
 use Rattle.std.proofs.Math.Nat.{div-mul-le_self, mul-le-mul_right}
 use Rattle.sg_defs.specs.Vectors.{value_of, ListsDescending}
 use Rattle.sg_defs.specs.Membership.{IsFactorization}
+use Rattle.sg_defs.proofs.ListLemmas.{contains-cases}
 use Rattle.sg_finite.specs.Listing.{levels, all_factorizations}
-use Rattle.sg_finite.proofs.ElementLemmas.{contains-nil, contains-cases, here, pairs-nil}
+use Rattle.sg_finite.proofs.ElementLemmas.{contains-nil, here, pairs-nil}
 use Rattle.sg_finite.proofs.LevelLemmas.{IsLexAbove, from-levels, into-levels, levels-descending}
 
 -- so often a number fits into another

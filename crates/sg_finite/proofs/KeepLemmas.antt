@@ -2,8 +2,9 @@
 use Rattle.std.proofs.Common.{◌≡◌, ◌≢◌, ◌<◌, ◌≤◌, List, [], ◌∷◌, length, refl, sym, ap, subst, inl, inr, arith}
 use Rattle.std.specs.Prelude.{◌⊎◌, ◌↔◌, AllPairs, Contains}
 use Rattle.std.proofs.lemmas.List.Kept.{AllPairs-cons}
+use Rattle.sg_defs.proofs.ListLemmas.{contains-cases}
 use Rattle.sg_finite.specs.Listed.{IsListing}
-use Rattle.sg_finite.proofs.ElementLemmas.{contains-nil, contains-cases, here, later, all-from_contained, pairs-nil, pairs-first, pairs-tail}
+use Rattle.sg_finite.proofs.ElementLemmas.{contains-nil, here, later, all-from_contained, pairs-nil, pairs-first, pairs-tail}
 
 -- the elements with Q
 pub keep : {A : Type 0} (Q : A → Type 0) → ((x : A) → Q x ⊎ ¬ Q x) → List A → List A

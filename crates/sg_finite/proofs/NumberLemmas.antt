@@ -5,7 +5,8 @@ use Rattle.std.specs.List.Sorted.{IsStrictlyIncreasing}
 use Rattle.std.proofs.lemmas.Bool.{cases_lt}
 use Rattle.std.proofs.lemmas.List.Elements.{Contains-append_left, Contains-append_cases, Contains-push}
 use Rattle.sg_defs.specs.Listings.{Lists}
-use Rattle.sg_finite.proofs.ElementLemmas.{contains-nil, contains-cases, pairs-nil, pairs-append}
+use Rattle.sg_defs.proofs.ListLemmas.{contains-cases}
+use Rattle.sg_finite.proofs.ElementLemmas.{contains-nil, pairs-nil, pairs-append}
 use Rattle.sg_finite.proofs.KeepLemmas.{keep, keep-pairs, keep-exactly}
 use Rattle.sg_finite.proofs.SearchLemmas.{some-in, each-in}
 

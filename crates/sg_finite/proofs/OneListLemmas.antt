@@ -2,8 +2,9 @@
 use Rattle.std.proofs.Common.{◌≡◌, ℕ, List, [], ◌∷◌, refl, sym, ap, subst, ◌∙◌, inl, inr}
 use Rattle.std.specs.Prelude.{AllPairs, Contains}
 use Rattle.sg_defs.specs.Vectors.{IsLexBelow, ListsAscending, ListsDescending}
+use Rattle.sg_defs.proofs.ListLemmas.{contains-cases}
 use Rattle.sg_nonunique.proofs.OrderLemmas.{lex-irreflexive, lex-then}
-use Rattle.sg_finite.proofs.ElementLemmas.{contains-nil, contains-cases, here, later, pairs-first, pairs-tail}
+use Rattle.sg_finite.proofs.ElementLemmas.{contains-nil, here, later, pairs-first, pairs-tail}
 
 module _ {A : Type 0} (R : A → A → Type 0) (apart : (x y : A) → R x y → R y x → ⊥) where
   same_first : (x y : A) (xs ys : List A) → AllPairs R (x ∷ xs) → AllPairs R (y ∷ ys) → Contains (y ∷ ys) x → Contains (x ∷ xs) y → x ≡ y

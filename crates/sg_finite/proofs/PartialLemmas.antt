@@ -8,12 +8,13 @@ use Rattle.std.proofs.lemmas.List.Kept.{AllPairs-cons}
 use Rattle.std.proofs.lemmas.List.Sums.{sum_by-cons}
 use Rattle.std.proofs.Math.Nat.{div-mul-le_self, mul-le-mul_left, mul-le-mul_right}
 use Rattle.sg_defs.specs.Vectors.{minus, scale, ListsDescending}
+use Rattle.sg_defs.proofs.ListLemmas.{contains-cases}
 use Rattle.sg_nonunique.specs.Affine.{vector_value_of}
 use Rattle.sg_nonunique.specs.Costs.{IsPartial}
 use Rattle.sg_nonunique.proofs.SumLemmas.{get_or-zeros, length-minus, get_or-minus, zero_or_positive}
 use Rattle.sg_nonunique.proofs.AffineLemmas.{length-scale, get_or-scale, length-vector_value, value-cons}
 use Rattle.sg_finite.specs.Listing.{copies, all_partial}
-use Rattle.sg_finite.proofs.ElementLemmas.{contains-nil, contains-cases, here, pairs-nil}
+use Rattle.sg_finite.proofs.ElementLemmas.{contains-nil, here, pairs-nil}
 use Rattle.sg_finite.proofs.LevelLemmas.{IsLexAbove, from-levels, into-levels, levels-descending}
 
 -- ---- how often a vector fits

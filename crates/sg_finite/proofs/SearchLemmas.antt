@@ -2,7 +2,8 @@
 use Rattle.std.proofs.Common.{◌≡◌, ◌≢◌, ℕ, ◌≤◌, List, [], ◌∷◌, refl, sym, subst, inl, inr, arith}
 use Rattle.std.specs.Prelude.{◌⊎◌, ◌↔◌, Contains}
 use Rattle.std.proofs.lemmas.Bool.{cases_lt, cases_eq}
-use Rattle.sg_finite.proofs.ElementLemmas.{contains-nil, contains-cases, here, later}
+use Rattle.sg_defs.proofs.ListLemmas.{contains-cases}
+use Rattle.sg_finite.proofs.ElementLemmas.{contains-nil, here, later}
 
 -- ---- equality of vectors
 

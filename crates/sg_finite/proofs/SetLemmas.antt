@@ -5,6 +5,7 @@ use Rattle.std.specs.Prelude.{◌⊎◌, ◌↔◌, AllPairs, Contains}
 use Rattle.std.proofs.lemmas.Bool.{cases_lt, cases_eq}
 use Rattle.sg_defs.specs.Listings.{Lists}
 use Rattle.sg_defs.specs.Vectors.{distance, IsLexBelow, ListsDescending}
+use Rattle.sg_defs.proofs.ListLemmas.{contains-cases}
 use Rattle.sg_nonunique.specs.Factorizations.{IsLengthIn}
 use Rattle.sg_nonunique.specs.Deltas.{IsDelta}
 use Rattle.sg_nonunique.specs.Walks.{IsJoined}
@@ -13,7 +14,7 @@ use Rattle.sg_nonunique.specs.Presentations.{IsLexGreatest}
 use Rattle.sg_nonunique.specs.Catenary.{IsChained, IsCatenaryOf}
 use Rattle.sg_nonunique.proofs.OrderLemmas.{lex-irreflexive, lex-then}
 use Rattle.sg_nonunique.proofs.WalkLemmas.{joined-step}
-use Rattle.sg_finite.proofs.ElementLemmas.{here, contains-nil, contains-cases, pairs-first}
+use Rattle.sg_finite.proofs.ElementLemmas.{here, contains-nil, pairs-first}
 use Rattle.sg_finite.proofs.KeepLemmas.{keep, keep-pairs, keep-exactly}
 use Rattle.sg_finite.proofs.NumberLemmas.{some-below, numbers-listed, least-number}
 use Rattle.sg_finite.proofs.SearchLemmas.{vectors-decided, some-in, each-in, bound-exists}
