@@ -8,11 +8,10 @@ use Rattle.sg_defs.specs.Vectors.{IsLexBelow, ListsDescending}
 use Rattle.sg_defs.proofs.ListLemmas.{contains-cases}
 use Rattle.sg_nonunique.specs.Classes.{IsSameClass, HasTwoClasses}
 use Rattle.sg_nonunique.specs.Presentations.{Relation, IsLexGreatest, IsCanonicalRelation, IsCanonical}
-use Rattle.sg_nonunique.proofs.OrderLemmas.{lex-irreflexive, lex-then}
 use Rattle.sg_finite.proofs.ElementLemmas.{contains-nil, here, later, contains-map, from-map, pairs-nil, pairs-first, pairs-tail, pairs-append, pairs-map}
 use Rattle.sg_finite.proofs.KeepLemmas.{keep, keep-pairs, keep-exactly}
 use Rattle.sg_finite.proofs.SearchLemmas.{each-decided}
-use Rattle.sg_finite.proofs.SetLemmas.{class-decided}
+use Rattle.sg_finite.proofs.SetLemmas.{class-decided, greatest-first}
 use Rattle.sg_families.proofs.Families.{IsFamily}
 use Rattle.sg_families.proofs.CanonicalLemmas.{IsBefore, one-greatest}
 use Rattle.sg_families.proofs.ClassLemmas.{class-end}
@@ -84,13 +83,7 @@ module _ {I : Type 0} (F : I → List ℕ → Type 0) (size : I → ℕ) (k : �
           let Q = IsRight n root in
           let rights = keep Q (right-decided n root) (root ∷ l) in
           let exactly = keep-exactly Q (right-decided n root) (F n) (root ∷ l) lists.exactly in
-          let top : IsLexGreatest (F n) root = record {
-            member = (lists.exactly root).0 (here root l);
-            greatest = λ z f below. elim (contains-cases root l z ((lists.exactly z).1 f)) [
-              | inl e ↦ lex-irreflexive root (subst (IsLexBelow root) (sym e) below)
-              | inr behind ↦ lex-irreflexive root (lex-then root z root below (pairs-first (λ x y. IsLexBelow y x) root l lists.descending z behind))
-            ];
-          } in (
+          let top = greatest-first (F n) root l lists in (
             map (relation_of n root) rights,
             pairs-map (λ x y. IsLexBelow y x) (IsBefore IsLess) (relation_of n root) (λ x y b. inr (refl, b)) rights
                 (keep-pairs Q (right-decided n root) (λ x y. IsLexBelow y x) (root ∷ l) lists.descending),

@@ -42,7 +42,16 @@ share-decided (a ∷ x) (b ∷ y) = elim (share-decided x y) [
   ]
 ]
 
--- what is related in a listed set, by walks with decided steps
+-- the first vector of a descending list is the greatest
+pub greatest-first : (V : List ℕ → Type 0) (x : List ℕ) (l : List (List ℕ)) → ListsDescending V (x ∷ l) → IsLexGreatest V x
+greatest-first V x l lists = record {
+  member = (lists.exactly x).0 (here x l);
+  greatest = λ z v below. elim (contains-cases x l z ((lists.exactly z).1 v)) [
+    | inl e ↦ lex-irreflexive x (subst (IsLexBelow x) (sym e) below)
+    | inr later ↦ lex-irreflexive x (lex-then x z x below (pairs-first (λ x y. IsLexBelow y x) x l lists.descending z later))
+  ];
+}
+
 module _ (V : List ℕ → Type 0) (l : List (List ℕ)) (lists : ListsDescending V l) where
   -- ---- lengths
 
