@@ -8,7 +8,7 @@ use Rattle.std.proofs.Math.IntN.{+ℤ_assoc, +ℤ_idr}
 use Rattle.std.proofs.Math.Path.{fun_ext}
 use Rattle.sg_value.specs.Known.{named}
 use Rattle.sg_value.specs.Data.{EachThing, int, list, none, item, data_map, Items}
-use Rattle.sg_value.specs.Plain.{Named, Things, AllKnown, IsKnown, contents, contents_of_all, plain, thing_at}
+use Rattle.sg_value.specs.Plain.{Named, Things, AllKnown, IsKnown, Entries, plain, thing_at}
 use Rattle.sg_value.specs.declared.value.Value.{Value}
 use Rattle.sg_value.specs.declared.value.Value.TheVariants as value
 use Rattle.sg_rows.specs.Order.{Plain}
@@ -17,7 +17,7 @@ use Rattle.sg_rows.specs.declared.fault.CallFault.{CallFault}
 use Rattle.sg_tree.specs.Tree.{Tree, span}
 use Rattle.sg_eval.specs.Entries.{integers_in}
 use Rattle.sg_eval.specs.Expressions.{eval, ask, listed}
-use Rattle.sg_eval.specs.Outcomes.{Evaluates, plain_in, known_in}
+use Rattle.sg_eval.specs.Outcomes.{Evaluates, plain_items, known_items}
 use Rattle.sg_eval.specs.Process.{Process, gives, ◌>>=◌, Runs}
 use Rattle.sg_eval.specs.Queries.{spans, integers_from}
 use Rattle.sg_eval.specs.Ranges.{IsRow, list_of_row, is_row, ranged, entries_in, are_known}
@@ -28,7 +28,6 @@ use Rattle.sg_eval.specs.declared.entries.Range.{Range}
 use Rattle.sg_eval.specs.declared.entries.Entries.TheVariants as entries
 use Rattle.sg_eval.proofs.Deciding.{assoc}
 use Rattle.sg_eval.proofs.Evaluating.{evaluates_as, evaluates_exit, evaluates_then, evaluates_gives}
-use Rattle.sg_eval.proofs.Measured.{contents-List}
 use Rattle.sg_eval.proofs.Spanned.{integers_map, integers_known}
 use Rattle.sg_eval.proofs.Steps.{right_unit}
 
@@ -39,10 +38,10 @@ exit_as view known view' known' r e s s1 p failed h =
     evaluates_as view' known' r s s1 (λ names. p names >>= (λ d. gives d)) p (λ names. right_unit (p names)) (evaluates_exit view known view' known' r e s s1 p (λ names d. gives d) failed h)
 
 -- a row that is written out
-pub row_listed : (row : Range) (vs : Vec Value Global) (s s1 : State) (p : Named → Process Plain) → Evaluates list_of_row is_row (Ok row) s s1 p → contents_of_all vs.items ≡ integers_in row.first row.count
-    → Evaluates plain AllKnown (Ok (value.List vs)) s s1 p
-row_listed row vs s s1 p h is =
-    let seen : contents (value.List vs) ≡ list (integers_in row.first row.count) = contents-List vs ∙ ap list is in
+pub row_listed : (row : Range) (ds : Entries) (s s1 : State) (p : Named → Process Plain) → Evaluates list_of_row is_row (Ok row) s s1 p → ds ≡ integers_in row.first row.count
+    → Evaluates plain AllKnown (Ok (value.List ds)) s s1 p
+row_listed row ds s s1 p h is =
+    let seen : list ds ≡ list (integers_in row.first row.count) = ap list is in
     record {
       keeps = h.keeps;
       variables = h.variables;
@@ -58,8 +57,8 @@ row_counted row s s1 p h =
     (evaluates_gives entries_in are_known (entries.Counted row) s1 (λ names. integers_from row.first row.count) h.is_known (λ final later. refl))
 
 -- entries that are there, as what a loop goes over
-pub entries_listed : (vs : Vec Value Global) (s s1 : State) (p : Named → Process (Items Things)) → Evaluates plain_in known_in (Ok vs) s s1 p → Evaluates entries_in are_known (Ok (entries.Listed vs)) s s1 p
-entries_listed vs s s1 p h = record { keeps = h.keeps; variables = h.variables; parameters = h.parameters; is_known = h.is_known; gives = h.gives }
+pub entries_listed : (ds : Entries) (s s1 : State) (p : Named → Process (Items Things)) → Evaluates plain_items known_items (Ok ds) s s1 p → Evaluates entries_in are_known (Ok (entries.Listed ds)) s s1 p
+entries_listed ds s s1 p h = record { keeps = h.keeps; variables = h.variables; parameters = h.parameters; is_known = h.is_known; gives = h.gives }
 
 -- the entries of a range, operand by operand
 pub span_step : (ps : Vars) (low high : Tree) → eval ps low >>= (λ a. eval ps high >>= ranged a) ≡ listed_of ps (span low high)

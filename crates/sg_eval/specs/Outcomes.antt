@@ -3,9 +3,9 @@ use Rattle.std.specs.Prelude.{◌≡◌, [], Result, Ok, Err, IfOk, OnOk, Vec, �
 use Rattle.sg_value.specs.Known.{Known, named}
 use Rattle.std.specs.Borrow.{Bor}
 use Rattle.std.specs.Global.{Global}
-use Rattle.sg_value.specs.Data.{Items}
+use Rattle.sg_value.specs.Data.{Items, items_map, EachThingOfAll}
 use Rattle.sg_value.specs.declared.value.Value.{Value}
-use Rattle.sg_value.specs.Plain.{Named, AllKnown, AllKnownIn, plain, plain_of_all, Things}
+use Rattle.sg_value.specs.Plain.{Named, AllKnown, AllKnownIn, IsKnown, plain, plain_of_all, thing_at, Entries, Things}
 use Rattle.sg_store.specs.Interned.{Keeps}
 use Rattle.sg_rows.specs.declared.fault.CallFault.{CallFault}
 use Rattle.sg_rows.specs.declared.fault.CallFault.TheVariants.{Script, Memory}
@@ -20,6 +20,13 @@ plain_in names vs = plain_of_all names vs.items
 
 abbrev pub known_in : Named → Vec Value Global → Type 0
 known_in names vs = AllKnownIn names vs.items
+
+-- the entries of a list by their plain values
+abbrev pub plain_items : Named → Entries → Items Things
+plain_items names ds = items_map (thing_at names) ds
+
+abbrev pub known_items : Named → Entries → Type 0
+known_items names ds = EachThingOfAll (IsKnown names) ds
 
 -- a value where it stands
 abbrev pub plain_of : Named → Bor Value → Plain

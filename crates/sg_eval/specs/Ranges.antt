@@ -2,10 +2,11 @@
 use Rattle.std.specs.Prelude.{ℕ, ◌<◌, pos, ◌+ℤ◌, FitsSigned}
 use Rattle.std.specs.Int.{w64}
 use Rattle.sg_value.specs.Data.{Items, list}
-use Rattle.sg_value.specs.Plain.{Named, AllKnownIn, plain_of_all, Things}
+use Rattle.sg_value.specs.Plain.{Named, Things}
 use Rattle.sg_rows.specs.Order.{Plain}
 use Rattle.sg_rows.specs.Kinds.{as_list}
 use Rattle.sg_eval.specs.Expressions.{ask, listed}
+use Rattle.sg_eval.specs.Outcomes.{plain_items, known_items}
 use Rattle.sg_eval.specs.Process.{Process, gives, ◌>>=◌}
 use Rattle.sg_eval.specs.Queries.{integers_from, spans}
 use Rattle.sg_eval.specs.declared.entries.Range.{Range}
@@ -26,11 +27,11 @@ is_row names r = IsRow r
 
 -- the entries, as plain values, and that each is known or in 64 bits
 abbrev pub entries_in : Named → Entries → Items Things
-entries_in names (Listed vs) = plain_of_all names vs.items
+entries_in names (Listed ds) = plain_items names ds
 entries_in names (Counted r) = integers_from r.first r.count
 
 abbrev pub are_known : Named → Entries → Type 0
-are_known names (Listed vs) = AllKnownIn names vs.items
+are_known names (Listed ds) = known_items names ds
 are_known names (Counted r) = IsRow r
 
 -- the entries of the list of the integers from the first to the second

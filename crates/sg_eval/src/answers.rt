@@ -4,7 +4,7 @@ ghost use Rattle.std.specs.Int.{w64};
 ghost use Rattle.sg_value.specs.Known.{named};
 ghost use Rattle.std.specs.Prelude.{◌≡◌, ℕ, List, Option, Some, None, MatchOption, OnOk, IfOk, pos, ◌+ℤ◌, ◌<◌, FitsSigned, ◌-ℤ◌, ◌-◌, ◌^◌, min, ◌++◌, ◌∷◌, [], slice_get};
 ghost use Rattle.sg_value.specs.Plain.{AllKnown, AllKnownIn, contents, contents_of_all, plain, plain_of_all};
-ghost use Rattle.sg_value.specs.Data.{list, truth};
+ghost use Rattle.sg_value.specs.Data.{list, text, truth};
 ghost use Rattle.sg_rows.specs.Kinds.{as_list};
 ghost use Rattle.sg_eval.specs.Queries.{lists, negates, indexes, spans, span_count};
 ghost use Rattle.sg_eval.specs.Expressions.{ask, decided, listed};
@@ -13,13 +13,15 @@ ghost use Rattle.sg_eval.specs.Truths.{itself, no_semigroup};
 ghost use Rattle.sg_eval.specs.Entries.{entry_from, as_natural, integers_in};
 ghost use Rattle.sg_eval.specs.Ranges.{IsRow, list_of_row, is_row, ranged, entries_in, are_known};
 ghost use Rattle.sg_eval.specs.State.{State};
-ghost use Rattle.sg_eval.specs.Outcomes.{Evaluates, plain_in, known_in};
+ghost use Rattle.sg_eval.specs.Outcomes.{Evaluates, plain_items, known_items};
 
 use crate::entries::{Entries, Range};
 use crate::kinds::{entries_of, integer_of, into_entries, truth_of};
 use sg_calls::{CallFault, Fault, negate};
-use sg_value::{Value, depth, try_clone, weight};
+use sg_nat::Bytes;
+use sg_value::{Items, Value, depth, try_clone, weight};
 use std::alloc::{AllocError, Global};
+use std::rc::Rc;
 
 /// How deep lists may nest.
 const DEPTH_LIMIT: u64 = 64;
@@ -27,11 +29,18 @@ const DEPTH_LIMIT: u64 = 64;
 /// How heavy a list may be.
 const WEIGHT_LIMIT: u64 = 4_194_304;
 
+/// The text of these bytes.
+pub fn text_of(alloc: Global, bytes: &Bytes) -> Result<Value, AllocError>
+    ensures { IfOk result (λ v. contents v ≡ text bytes.now) }
+{
+    Ok(Value::Text(Rc::new(alloc, bytes.try_clone()?)?))
+}
+
 /// The list of these entries, within the limits.
-pub fn list_of(values: Vec<Value>) -> Result<Value, CallFault>
+pub fn list_of(alloc: Global, values: Vec<Value>) -> Result<Value, CallFault>
     ensures { (s : State) → AllKnownIn (named s.names) values.items → Evaluates plain AllKnown result s s (λ names. ask (lists (plain_of_all names values.items))) }
 {
-    let list = Value::List(values);
+    let list = Value::List(Items::from_vec(alloc, values)?);
     if depth(&list) > DEPTH_LIMIT {
         return Err(CallFault::Script(Fault::Depth));
     }
@@ -59,8 +68,8 @@ pub fn decide(v: &Value) -> Result<bool, CallFault>
 }
 
 /// The entries of a list.
-pub fn entries(v: Value) -> Result<Vec<Value>, CallFault>
-    ensures { (s : State) → AllKnown (named s.names) v → Evaluates plain_in known_in result s s (λ names. listed (as_list (plain names v)) (λ ds. gives ds)) }
+pub fn entries(v: Value) -> Result<Items, CallFault>
+    ensures { (s : State) → AllKnown (named s.names) v → Evaluates plain_items known_items result s s (λ names. listed (as_list (plain names v)) (λ ds. gives ds)) }
 {
     match into_entries(v) {
         Some(entries) => Ok(entries),
@@ -143,7 +152,8 @@ pub fn span(alloc: Global, low: &Value, high: &Value) -> Result<Value, CallFault
     ensures { (s : State) → Evaluates plain AllKnown result s s (λ names. ask (spans (plain names low.now) (plain names high.now))) }
 {
     let range = row(low, high)?;
-    Ok(Value::List(integers_from(alloc, range.first, range.count)?))
+    let integers = integers_from(alloc, range.first, range.count)?;
+    Ok(Value::List(Items::from_vec(alloc, integers)?))
 }
 
 /// The same integers, as what a loop goes over.

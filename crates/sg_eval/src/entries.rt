@@ -1,6 +1,6 @@
 //! What a loop goes over: the entries of a list, or the integers of a range, which are not written out.
 
-use sg_value::Value;
+use sg_value::Items;
 
 /// Integers in a row.
 #[derive(Clone, Copy)]
@@ -12,8 +12,8 @@ pub struct Range {
 /// The entries of a list.
 #[derive(Drop)]
 pub enum Entries {
-    /// Each is there.
-    Listed(Vec<Value>),
+    /// Each is there, shared with whoever holds the list.
+    Listed(Items),
     /// They are integers in a row.
     Counted(Range),
 }

@@ -13,7 +13,7 @@ ghost use Rattle.sg_eval.specs.Linked.{linked as linked_meaning, placed, items_f
 ghost use Rattle.sg_eval.specs.Outcomes.{Evaluates, plain_in, known_in};
 ghost use Rattle.sg_eval.specs.Machine.{state_of};
 
-use crate::answers::{index, list_of, put, span};
+use crate::answers::{index, list_of, put, span, text_of};
 use crate::folding::{Folding, entries_if, finished, folding_named, gather, goes_on};
 use crate::given::with_one;
 use crate::integers::{integer, truth};
@@ -48,7 +48,7 @@ fn eval_any(alloc: Global, machine: &mut Machine, e: &Expr) -> Result<Value, Cal
 {
     match e {
         Expr::Int(z) => Ok(Value::Int(*z)),
-        Expr::Text(text) => Ok(Value::Text(text.try_clone()?)),
+        Expr::Text(bytes) => Ok(text_of(alloc, bytes)?),
         Expr::Bool(b) => Ok(Value::Bool(*b)),
         Expr::Fail => Ok(Value::Fail),
         Expr::Var(name) => machine.named(alloc, name.as_slice()),
@@ -158,7 +158,7 @@ fn argument(alloc: Global, machine: &mut Machine, arg: &Arg) -> Result<Option<Va
 fn display(alloc: Global, machine: &mut Machine, entries: &[Expr]) -> Result<Value, CallFault>
     ensures { Evaluates plain AllKnown result (state_of machine.old) (state_of machine.new) (λ names. meaning (state_of machine.old).parameters (displayed (trees_of entries.now))) }
 {
-    list_of(eval_all(alloc, machine, entries)?)
+    list_of(alloc, eval_all(alloc, machine, entries)?)
 }
 
 /// The values of expressions, in their order.
@@ -330,7 +330,7 @@ fn fold_call(
         }
         Arg::Arrow(parameter, body) => {
             let entries = entries_if(first)?;
-            folded(alloc, machine, body, parameter, fold, &entries)
+            folded(alloc, machine, body, parameter, fold, entries.as_slice())
         }
     }
 }
@@ -352,11 +352,11 @@ fn folded(
     for entry in entries {
         let value = apply(alloc, machine, body, parameter, entry)?;
         if !goes_on(fold, &value)? {
-            return finished(fold, false, gathered);
+            return finished(alloc, fold, false, gathered);
         }
         gather(alloc, fold, entry, value, &mut gathered)?;
     }
-    finished(fold, true, gathered)
+    finished(alloc, fold, true, gathered)
 }
 
 /// The value of an arrow's body at an entry.

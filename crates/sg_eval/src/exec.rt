@@ -54,7 +54,7 @@ pub fn exec<W: Sink>(
         }
         Stmt::For(name, e, body) => {
             match list_of(alloc, machine, e)? {
-                Entries::Listed(entries) => repeat(alloc, machine, body, name, &entries, out),
+                Entries::Listed(list) => repeat(alloc, machine, body, name, list.as_slice(), out),
                 Entries::Counted(range) => count_up(alloc, machine, body, name, range, out),
             }
         }

@@ -10,11 +10,11 @@ ghost use Rattle.sg_eval.specs.Given.{plain_if, known_if};
 ghost use Rattle.sg_eval.specs.Process.{gives};
 ghost use Rattle.sg_eval.specs.State.{State};
 ghost use Rattle.sg_eval.specs.Truths.{itself, no_semigroup};
-ghost use Rattle.sg_eval.specs.Outcomes.{Evaluates, plain_in, known_in};
+ghost use Rattle.sg_eval.specs.Outcomes.{Evaluates, plain_items, known_items};
 
 use crate::answers::{decide, entries, list_of, put};
 use sg_calls::{CallFault, Fault};
-use sg_value::{Value, try_clone};
+use sg_value::{Items, Value, try_clone};
 use std::alloc::{AllocError, Global};
 
 /// What is done with the values that an arrow gives.
@@ -108,11 +108,16 @@ pub fn gather(
 }
 
 /// The answer, once all entries were looked at or not.
-pub fn finished(fold: Folding, all: bool, gathered: Vec<Value>) -> Result<Value, CallFault>
+pub fn finished(
+    alloc: Global,
+    fold: Folding,
+    all: bool,
+    gathered: Vec<Value>,
+) -> Result<Value, CallFault>
     ensures { (s : State) → AllKnownIn (named s.names) gathered.items → Evaluates plain AllKnown result s s (λ names. finished fold all (plain_of_all names gathered.items)) }
 {
     match fold {
-        Folding::EachValue | Folding::ThoseTrue => list_of(gathered),
+        Folding::EachValue | Folding::ThoseTrue => list_of(alloc, gathered),
         Folding::AllTrue => Ok(Value::Bool(all)),
         Folding::AnyTrue => Ok(Value::Bool(!all)),
         Folding::CountTrue => Ok(Value::Int(gathered.len() as i64)),
@@ -120,8 +125,8 @@ pub fn finished(fold: Folding, all: bool, gathered: Vec<Value>) -> Result<Value,
 }
 
 /// The entries of a list, where there is one.
-pub fn entries_if(v: Option<Value>) -> Result<Vec<Value>, CallFault>
-    ensures { (s : State) → known_if (named s.names) v → Evaluates plain_in known_in result s s (λ names. listed_if (plain_if names v) (λ ds. gives ds)) }
+pub fn entries_if(v: Option<Value>) -> Result<Items, CallFault>
+    ensures { (s : State) → known_if (named s.names) v → Evaluates plain_items known_items result s s (λ names. listed_if (plain_if names v) (λ ds. gives ds)) }
 {
     match v {
         Some(value) => entries(value),

@@ -5,7 +5,7 @@ ghost use Rattle.sg_value.specs.Plain.{contents, contents_of_all};
 ghost use Rattle.sg_rows.specs.Kinds.{as_integer, as_list};
 ghost use Rattle.sg_eval.specs.Truths.{as_truth};
 
-use sg_value::Value;
+use sg_value::{Items, Value};
 
 /// The integer, where the value is one.
 pub fn integer_of(v: &Value) -> Option<i64>
@@ -38,8 +38,8 @@ pub fn entries_of(v: &Value) -> Option<&[Value]>
 }
 
 /// The entries themselves, where the value is a list.
-pub fn into_entries(v: Value) -> Option<Vec<Value>>
-    ensures { MatchOption result (as_list (contents v) ≡ None) (λ entries. as_list (contents v) ≡ Some (contents_of_all entries.items)) }
+pub fn into_entries(v: Value) -> Option<Items>
+    ensures { result ≡ as_list (contents v) }
 {
     match v {
         Value::List(entries) => Some(entries),

@@ -58,7 +58,7 @@ module _ (store : Known) (vs : List Value) (ds : Items Places) (is : joined (con
       subst (λ o. Replies (Err (Script TooLarge)) store (given o (λ es. fits (answers (λ d. d ≡ list es))))) (sym seen)
       (replies_heavy store (answers (λ d. d ≡ list all)) all (answers_pass (λ d. d ≡ list all)) refl (omega (arith, e, shallow)) (omega (arith, w, past)))
 
-  pub within : (64 < depth_of_all (contents_of_all vs) → ⊥) → (4194304 ≤ weight_of_all ds → ⊥) → AllKnownIn (named store) vs → (copies : Vec Value Global) → contents_of_all copies.items ≡ ds
+  pub within : (64 < depth_of_all (contents_of_all vs) → ⊥) → (4194304 ≤ weight_of_all ds → ⊥) → AllKnownIn (named store) vs → (copies : Items Places) → copies ≡ ds
       → Replies (Ok (value.List copies)) store (concatenation_of (plain_of_all (named store) vs))
   within shallow light known copies same =
       let all = items_map (thing_at (named store)) ds in

@@ -11,7 +11,7 @@ ghost use Rattle.sg_lists.specs.Lists.{concatenation_of};
 ghost use Rattle.sg_rows.specs.Replies.{Replies};
 
 use sg_rows::{CallFault, Fault, entries_of, is_heavy};
-use sg_value::{Value, depth, try_clone, weight};
+use sg_value::{Items as Entries, Value, depth, try_clone, weight};
 use std::alloc::{AllocError, Global};
 
 /// How deep lists may nest.
@@ -103,5 +103,5 @@ pub fn concatenation_of(alloc: Global, lists: &[Value]) -> Result<Value, CallFau
     if are_heavy(lists) {
         return Err(CallFault::Script(Fault::TooLarge));
     }
-    Ok(Value::List(copies_of_all(alloc, lists)?))
+    Ok(Value::List(Entries::from_vec(alloc, copies_of_all(alloc, lists)?)?))
 }

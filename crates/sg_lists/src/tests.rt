@@ -2,7 +2,7 @@
 
 use crate::{concatenation_of, gcd_of, lcm_of, length_of, maximum_of, minimum_of, sum_of};
 use sg_rows::{CallFault, Fault};
-use sg_value::Value;
+use sg_value::{Items, Value};
 use std::alloc::{AllocError, Global};
 use std::test::Fail;
 
@@ -11,7 +11,7 @@ fn list(alloc: Global, zs: &[i64]) -> Result<Value, AllocError> {
     for z in zs {
         values.push(Value::Int(*z))?;
     }
-    Ok(Value::List(values))
+    Ok(Value::List(Items::from_vec(alloc, values)?))
 }
 
 /// The integer of an answer, or 0 for any other.

@@ -4,8 +4,9 @@ use Rattle.sg_value.specs.Known.{Known, named}
 use Rattle.std.proofs.lemmas.Bool.{cases_lt}
 use Rattle.std.specs.Global.{Global}
 use Rattle.sg_value.specs.Data.{Data, int, list, semigroup, item, items_of, data_map, items_map, weight_of, weight_of_all, depth_of, depth_of_all, EachThing, EachThingOfAll, Kind}
+use Rattle.sg_value.specs.Places.{Entries}
 use Rattle.sg_value.specs.Plain.{contents, contents_of_all, thing_at, IsKnown, Things, Places}
-use Rattle.sg_value.specs.declared.value.Value.{Value, the_lemmas as value_lemmas}
+use Rattle.sg_value.specs.declared.value.Value.{Value}
 use Rattle.sg_value.specs.declared.value.Value.TheVariants as value
 use Rattle.sg_rows.specs.Order.{Plain, fits, Delivers, IsReply}
 use Rattle.sg_rows.specs.Kinds.{answers}
@@ -101,8 +102,8 @@ replies_naturals store ns v is few = (
 pub replies_heavy_naturals : (store : Known) (ns : List ℕ) → 4194304 ≤ length ns → Replies (Err (Script TooLarge)) store (fits (answers (λ d. d ≡ natural_list ns)))
 replies_heavy_naturals store ns many = exact (natural_list ns) (Err TooLarge) (delivers_heavy_naturals ns many)
 
-pub contents-List : (vs : Vec Value Global) → contents (value.List vs) ≡ list (contents_of_all vs.items)
-contents-List vs = search (rules, value_lemmas)
+pub contents-List : (ds : Entries) → contents (value.List ds) ≡ list ds
+contents-List ds = refl
 
 -- what is not heavy is light
 pub light : (n : ℕ) (b : Bool) → b ≡ false → (4194304 ≤ n → IsTrue b) → n < 4194304

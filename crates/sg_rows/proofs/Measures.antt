@@ -1,8 +1,8 @@
 -- How large plain lists are, and lists as replies.
 use Rattle.std.proofs.Common.{◌≡◌, ◌<◌, ◌≤◌, ◌+◌, suc, max, Ok, Err, Vec, Global, inl, inr, refl, ap, ap₂, sym, ◌∙◌, subst, arith}
 use Rattle.sg_value.specs.Known.{Known, named}
-use Rattle.sg_value.specs.Data.{Data, int, truth, text, list, fail, semigroup, ideal, Items, none, item, data_map, items_map, depth_of, depth_of_all, weight_of, weight_of_all, EachThing, Kind}
-use Rattle.sg_value.specs.Plain.{AllKnownIn, IsKnown, plain, plain_of_all, thing_at, Things}
+use Rattle.sg_value.specs.Data.{Data, int, truth, text, list, fail, semigroup, ideal, Items, none, item, data_map, items_map, depth_of, depth_of_all, weight_of, weight_of_all, EachThing, Kind, EachThingOfAll}
+use Rattle.sg_value.specs.Plain.{AllKnownIn, IsKnown, plain, plain_of_all, thing_at, Things, Entries}
 use Rattle.sg_value.specs.declared.value.Value.{Value}
 use Rattle.sg_value.specs.declared.value.Value.TheVariants as value
 use Rattle.sg_rows.specs.Order.{Row, fits, IsReply}
@@ -41,12 +41,12 @@ mutual
   weight_of_all-map f (item d ds) = ap₂ (λ m n. m + n) (weight_of-map f d) (weight_of_all-map f ds)
 
 -- a list as the reply, where it is within the limits
-pub replies_list : (store : Known) (row : Row) (ds : Items Things) (vs : Vec Value Global) → Passes row → row.value (list ds) → plain_of_all (named store) vs.items ≡ ds
-    → depth_of_all ds ≤ 63 → weight_of_all ds < 4194304 → AllKnownIn (named store) vs.items → Replies (Ok (value.List vs)) store (fits row)
-replies_list store row ds vs passes h is shallow light known =
-    let seen : plain (named store) (value.List vs) ≡ list ds = ap (data_map (thing_at (named store))) (contents-List vs) ∙ ap list is in (
+pub replies_list : (store : Known) (row : Row) (ds : Items Things) (es : Entries) → Passes row → row.value (list ds) → items_map (thing_at (named store)) es ≡ ds
+    → depth_of_all ds ≤ 63 → weight_of_all ds < 4194304 → EachThingOfAll (IsKnown (named store)) es → Replies (Ok (value.List es)) store (fits row)
+replies_list store row ds es passes h is shallow light known =
+    let seen : plain (named store) (value.List es) ≡ list ds = ap (data_map (thing_at (named store))) (contents-List es) ∙ ap list is in (
       subst (λ d. IsReply (fits row) (Ok d)) (sym seen) (delivered row (list ds) (Ok (list ds)) passes h (inr ((λ f. f tt), inr ((λ deep. absurd (omega (arith, shallow, deep))), inr ((λ heavy. absurd (omega (arith, light, heavy))), refl))))),
-      subst (EachThing (IsKnown (named store))) (sym (contents-List vs)) known,
+      subst (EachThing (IsKnown (named store))) (sym (contents-List es)) known,
     )
 
 -- the list nests too deep

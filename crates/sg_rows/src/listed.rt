@@ -10,7 +10,7 @@ ghost use Rattle.sg_rows.specs.Listed.{integer_list, natural_list};
 ghost use Rattle.sg_rows.specs.Replies.{Replies};
 
 use crate::fault::{CallFault, Fault};
-use sg_value::Value;
+use sg_value::{Items, Value};
 use std::alloc::{AllocError, Global};
 
 /// The weight of the heaviest value.
@@ -53,7 +53,7 @@ pub fn integer_list(alloc: Global, zs: &[i64]) -> Result<Value, CallFault>
     if is_heavy(zs.len() as u64) {
         return Err(CallFault::Script(Fault::TooLarge));
     }
-    Ok(Value::List(integer_values(alloc, zs)?))
+    Ok(Value::List(Items::from_vec(alloc, integer_values(alloc, zs)?)?))
 }
 
 /// The naturals as a list, or that it is too heavy.
@@ -64,5 +64,5 @@ pub fn natural_list(alloc: Global, ns: &[u64]) -> Result<Value, CallFault>
     if is_heavy(ns.len() as u64) {
         return Err(CallFault::Script(Fault::TooLarge));
     }
-    Ok(Value::List(natural_values(alloc, ns)?))
+    Ok(Value::List(Items::from_vec(alloc, natural_values(alloc, ns)?)?))
 }

@@ -2,8 +2,8 @@
 use Rattle.std.proofs.Common.{◌≡◌, ◌+◌, ◌<◌, ◌≤◌, ℕ, List, [], ◌∷◌, ◌++◌, length, get_or, take, Some, Ok, Err, Vec, Global, map, unwrap_or, is_some, refl, ap, ap₂, sym, ◌∙◌, subst}
 use Rattle.sg_value.specs.Known.{Known, named}
 use Rattle.std.proofs.lemmas.List.{take_more, take_all}
-use Rattle.sg_value.specs.Data.{semigroup, list, items_of, item, data_map, EachThing, semigroups}
-use Rattle.sg_value.specs.Plain.{Named, IsKept, IsKnown, AllKnownIn, contents, plain, plain_of_all, thing_at}
+use Rattle.sg_value.specs.Data.{semigroup, list, items_of, item, data_map, EachThing, semigroups, EachThingOfAll, items_map}
+use Rattle.sg_value.specs.Plain.{Named, IsKept, IsKnown, AllKnownIn, contents, plain, plain_of_all, thing_at, Entries, contents_of_all}
 use Rattle.sg_value.specs.declared.value.Value.{Value}
 use Rattle.sg_value.specs.declared.value.Value.TheVariants as value
 use Rattle.sg_rows.specs.Order.{fits, IsReply}
@@ -52,13 +52,13 @@ pub kept-on : (one two three : Named) → IsKept one two → IsKept two three �
 kept-on one two three h k = λ j i thing at. k j i thing (h j i thing at)
 
 -- what names the semigroups of a list is that list
-pub replies_names : (store : Known) (vs : Vec Value Global) (L : List (List ℕ)) → plain_of_all (named store) vs.items ≡ items_of (map semigroup L) → AllKnownIn (named store) vs.items → length L < 4194304
-    → Replies (Ok (value.List vs)) store (fits (answers (λ d. d ≡ semigroup_list L)))
-replies_names store vs L same known few =
+pub replies_names : (store : Known) (vs : List Value) (es : Entries) (L : List (List ℕ)) → es ≡ contents_of_all vs → plain_of_all (named store) vs ≡ items_of (map semigroup L) → AllKnownIn (named store) vs → length L < 4194304
+    → Replies (Ok (value.List es)) store (fits (answers (λ d. d ≡ semigroup_list L)))
+replies_names store vs es L is same known few =
     let row = answers (λ d. d ≡ semigroup_list L) in
-    let seen : plain (named store) (value.List vs) ≡ semigroup_list L = ap (data_map (thing_at (named store))) (contents-List vs) ∙ ap list same in (
+    let seen : plain (named store) (value.List es) ≡ semigroup_list L = ap list (ap (items_map (thing_at (named store))) is ∙ same) in (
       subst (λ d. IsReply (fits row) (Ok d)) (sym seen) (delivered row (semigroup_list L) (Ok (semigroup_list L)) (answers_pass (λ d. d ≡ semigroup_list L)) refl (delivers_semigroups L few)),
-      subst (EachThing (IsKnown (named store))) (sym (contents-List vs)) known,
+      subst (EachThingOfAll (IsKnown (named store))) (sym is) known,
     )
 
 pub replies_heavy_names : (store : Known) (L : List (List ℕ)) → 4194304 ≤ length L → Replies (Err (Script TooLarge)) store (fits (answers (λ d. d ≡ semigroup_list L)))

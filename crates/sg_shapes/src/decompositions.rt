@@ -22,7 +22,7 @@ use sg_irred::decompose;
 use sg_nat::{Ints, Nats};
 use sg_rows::{CallFault, Fault, is_heavy, is_wide, semigroup_of};
 use sg_store::Store;
-use sg_value::Value;
+use sg_value::{Items, Value};
 use std::alloc::{AllocError, Global};
 
 /// Each semigroup as a value, by its old id where it is known.
@@ -52,7 +52,7 @@ fn semigroup_list(alloc: Global, store: &mut Store, lists: &[Nats]) -> Result<Va
     if is_heavy(lists.len() as u64) {
         return Err(CallFault::Script(Fault::TooLarge));
     }
-    Ok(Value::List(semigroup_values(alloc, store, lists)?))
+    Ok(Value::List(Items::from_vec(alloc, semigroup_values(alloc, store, lists)?)?))
 }
 
 /// The decomposition, within the limit of the span. `numbers` are the pseudo-Frobenius numbers.

@@ -1,5 +1,5 @@
 -- The entries of a list of values.
-use Rattle.std.proofs.Common.{◌≡◌, ℕ, ℤ, ◌+◌, ◌<◌, zero, suc, List, [], ◌∷◌, ◌++◌, length, get_or, take, Some, IsSome, refl, ap, subst, sym, arith}
+use Rattle.std.proofs.Common.{◌≡◌, ℕ, ℤ, ◌+◌, ◌<◌, zero, suc, List, [], ◌∷◌, ◌++◌, length, get_or, take, refl, ap, subst, sym, arith}
 use Rattle.sg_value.specs.Data.{Kind, semigroups, ideals, Data, int, truth, text, list, fail, semigroup, ideal, Items, none, item, EachThing, EachThingOfAll}
 use Rattle.sg_value.specs.Plain.{Named, IsKnown, contents, AllKnown, AllKnownIn, plain, plain_of_all}
 use Rattle.sg_value.specs.Alike.{every_place}

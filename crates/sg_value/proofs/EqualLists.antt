@@ -1,6 +1,7 @@
 -- Lists of values with the same contents.
-use Rattle.std.proofs.Common.{◌≡◌, ℕ, zero, suc, ◌<◌, List, [], ◌∷◌, length, get_or, arith, refl, ap, false, IsTrue, ◌↔◌}
+use Rattle.std.proofs.Common.{◌≡◌, ℕ, zero, suc, ◌<◌, ◌≤◌, List, [], ◌∷◌, length, get_or, arith, refl, ap, false, IsTrue, ◌↔◌}
 use Rattle.std.proofs.lemmas.Bool.{false≢true}
+use Rattle.sg_value.specs.Data.{depth_of, depth_of_all}
 use Rattle.sg_value.specs.Plain.{contents, contents_of_all}
 use Rattle.sg_value.specs.declared.value.Value.{Value}
 
@@ -21,3 +22,9 @@ contents_of_all-at (x ∷ xs) (y ∷ ys) (suc i) d e same within = contents_of_a
 -- a test that failed, of a fact that does not hold
 pub never : {P : Type 0} → ¬ P → IsTrue false ↔ P
 never refuted = (λ h. absurd (false≢true h), λ p. absurd (refuted p))
+
+-- no entry is deeper than the greatest depth
+pub depth_of-at : (vs : List Value) (i : ℕ) (d : Value) → i < length vs → depth_of (contents (get_or vs i d)) ≤ depth_of_all (contents_of_all vs)
+depth_of-at [] i d within = absurd (omega arith)
+depth_of-at (v ∷ vs) zero d within = omega arith
+depth_of-at (v ∷ vs) (suc i) d within = omega (arith, depth_of-at vs i d (omega arith))

@@ -3,3 +3,4 @@ pub mod Fronts
 pub mod Pieces
 pub mod Entries
 pub mod OneStore
+pub mod Joined

@@ -1,7 +1,7 @@
 -- Values over one store, also as it grows.
-use Rattle.std.proofs.Common.{◌≡◌, ℕ, Option, Some, None, IsSome, is_some, unwrap_or, List, [], refl, ap, ap₂, sym, ◌∙◌}
-use Rattle.sg_value.specs.Data.{Kind, semigroups, ideals, Data, int, truth, text, list, fail, semigroup, ideal, Items, none, item, data_map, items_map, EachThing, EachThingOfAll}
-use Rattle.sg_value.specs.Plain.{Named, Places, Things, Stored, IsKnown, nothing, thing_at, AreDistinct, IsKept}
+use Rattle.std.proofs.Common.{◌≡◌, ℕ, Option, Some, None, IsSome, is_some, unwrap_or, refl, ap, ap₂, sym, ◌∙◌}
+use Rattle.sg_value.specs.Data.{Kind, semigroups, ideals, int, truth, text, list, fail, semigroup, ideal, Items, none, item, data_map, items_map, EachThing, EachThingOfAll}
+use Rattle.sg_value.specs.Plain.{Named, Places, Stored, IsKnown, nothing, thing_at, AreDistinct, IsKept}
 
 known_at : {A : Type 0} (o : Option A) (a : A) → IsSome o → o ≡ Some (unwrap_or o a)
 known_at None a known = absurd (cc)

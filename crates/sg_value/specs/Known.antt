@@ -1,6 +1,6 @@
 -- What a store knows.
-use Rattle.std.specs.Prelude.{ℕ, List, Option, slice_get}
-use Rattle.sg_value.specs.Data.{Kind, semigroups, ideals}
+use Rattle.std.specs.Prelude.{ℕ, List, slice_get}
+use Rattle.sg_value.specs.Data.{semigroups, ideals}
 use Rattle.sg_value.specs.Plain.{Named, RelativeIdeal}
 
 -- the things of each kind: that with the id i is entry i

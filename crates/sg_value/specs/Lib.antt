@@ -4,3 +4,8 @@ pub mod Known
 pub mod Alike
 pub mod Text
 pub mod Laws
+pub mod Code
+pub mod Places
+pub mod Contents
+pub mod Size
+pub mod Falls

@@ -1,12 +1,9 @@
 -- The plain data of a value.
-use Rattle.std.specs.Prelude.{◌≡◌, ℕ, ℤ, List, [], map, Option, Some, IsSome, unwrap_or}
-use Rattle.sg_value.specs.Data.{Kind, semigroups, ideals, Data, int, truth, text, list, fail, semigroup, ideal, Items, items_of, data_map, items_map, EachThing, EachThingOfAll}
-use Rattle.sg_value.specs.declared.value.Value.{Value, fold-Value}
-use Rattle.sg_value.specs.declared.value.Value.TheOpen.{Value-F}
-
--- a thing by its place in a store
-abbrev pub Places : Kind → Type 0
-Places k = ℕ
+use Rattle.std.specs.Prelude.{◌≡◌, ℕ, ℤ, List, [], Option, Some, IsSome, unwrap_or}
+use Rattle.sg_value.specs.Data.{Kind, semigroups, ideals, Data, Items, data_map, items_map, EachThing, EachThingOfAll}
+use Rattle.sg_value.specs.declared.value.Value.{Value}
+pub use Rattle.sg_value.specs.Places.{Places, Stored, Entries}
+pub use Rattle.sg_value.specs.Contents.{contents, contents_of_all}
 
 -- a relative ideal by the minimal lists of its ambient semigroup and of its own generators
 pub record RelativeIdeal : Type 0 where
@@ -18,29 +15,9 @@ abbrev pub Things : Kind → Type 0
 Things semigroups = List ℕ
 Things ideals = RelativeIdeal
 
--- a value as it is stored, and a value with no store behind it
-abbrev pub Stored : Type 0
-Stored = Data Places
-
+-- a value with no store behind it
 abbrev pub Plain : Type 0
 Plain = Data Things
-
--- one level, with each entry already seen as its data
-abbrev pub level : Value-F Stored → Stored
-level (Value-F.Int z) = int z
-level (Value-F.Bool b) = truth b
-level (Value-F.Text bs) = text bs
-level (Value-F.List v) = list (items_of v.items)
-level Value-F.Fail = fail
-level (Value-F.Sem id) = semigroup id
-level (Value-F.Ideal id) = ideal id
-
--- a value as plain data, with the places of its things
-abbrev pub contents : Value → Stored
-contents = fold-Value Stored level
-
-abbrev pub contents_of_all : List Value → Items Places
-contents_of_all vs = items_of (map contents vs)
 
 -- what the known places of each kind stand for
 abbrev pub Named : Type 0

@@ -11,6 +11,7 @@
 mod copy;
 mod equality;
 mod id;
+mod items;
 pub mod laws;
 mod names;
 mod print;
@@ -23,6 +24,7 @@ mod value;
 pub use copy::try_clone;
 pub use equality::equal;
 pub use id::{IdealId, SemId};
+pub use items::Items;
 pub use names::Names;
 pub use print::print_into;
 pub use size::{depth, weight};

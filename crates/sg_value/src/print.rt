@@ -36,7 +36,7 @@ fn add_entry<N: Names>(v: &Value, names: &N, out: &mut Bytes) -> Result<(), Allo
         Value::Bool(true) => add(b"true", out),
         Value::Bool(false) => add(b"false", out),
         Value::Text(text) => add_quoted(text.as_slice(), out),
-        Value::List(items) => add_list(items, names, out),
+        Value::List(items) => add_list(items.as_slice(), names, out),
         Value::Fail => add(b"fail", out),
         Value::Sem(id) => add_semigroup(names.semigroup(*id).as_slice(), out),
         Value::Ideal(id) => add_ideal(*id, names, out),

@@ -7,46 +7,44 @@ ghost use Rattle.sg_value.specs.Plain.{contents, contents_of_all};
 use crate::value::Value;
 
 /// How many values it is made of: 1, and for a list the weights of its entries too; 2^64 - 1 where that is more. It
-/// takes no memory.
-#[cycle(weight)]
+/// takes one step.
 pub fn weight(v: &Value) -> u64
     ensures { result ≡ min (weight_of (contents v.now)) (2 ^ 64 - 1) }
 {
     match v {
-        Value::List(items) => weight_of_all(items).saturating_add(1),
+        Value::List(items) => items.weight().saturating_add(1),
         _ => 1,
     }
 }
 
-#[cycle(weight)]
-fn weight_of_all(items: &[Value]) -> u64
-    ensures { result ≡ min (weight_of_all (contents_of_all items.now)) (2 ^ 64 - 1) }
-{
-    let mut total = 0u64;
-    for item in items {
-        total = total.saturating_add(weight(item));
-    }
-    total
-}
-
-/// How deep lists nest: 0 where it is no list, and 1 for the empty list; 2^64 - 1 where it is more. It takes no memory.
-#[cycle(depth)]
+/// How deep lists nest: 0 where it is no list, and 1 for the empty list; 2^64 - 1 where it is more. It takes one step.
 pub fn depth(v: &Value) -> u64
     ensures { result ≡ min (depth_of (contents v.now)) (2 ^ 64 - 1) }
 {
     match v {
-        Value::List(items) => depth_of_all(items).saturating_add(1),
+        Value::List(items) => items.depth().saturating_add(1),
         _ => 0,
     }
 }
 
-#[cycle(depth)]
-fn depth_of_all(items: &[Value]) -> u64
-    ensures { result ≡ min (depth_of_all (contents_of_all items.now)) (2 ^ 64 - 1) }
+/// The weight of all entries, 2^64 - 1 where it is more.
+pub fn total_weight(entries: &[Value]) -> u64
+    ensures { result ≡ min (weight_of_all (contents_of_all entries.now)) (2 ^ 64 - 1) }
+{
+    let mut total = 0u64;
+    for entry in entries {
+        total = total.saturating_add(weight(entry));
+    }
+    total
+}
+
+/// The greatest depth of the entries, 2^64 - 1 where it is more.
+pub fn greatest_depth(entries: &[Value]) -> u64
+    ensures { result ≡ min (depth_of_all (contents_of_all entries.now)) (2 ^ 64 - 1) }
 {
     let mut deepest = 0u64;
-    for item in items {
-        deepest = deepest.max(depth(item));
+    for entry in entries {
+        deepest = deepest.max(depth(entry));
     }
     deepest
 }

@@ -2,10 +2,11 @@
 
 ghost use Rattle.sg_value.specs.Alike.{every_place};
 
-use crate::{IdealId, Names, SemId, Value, depth, equal, print_into, try_clone, weight};
+use crate::{IdealId, Items, Names, SemId, Value, depth, equal, print_into, try_clone, weight};
 use sg_nat::{Bytes, Ints, Nats};
 use std::alloc::{AllocError, Global};
 use std::io;
+use std::rc::Rc;
 
 /// Names that know every id, and give each semigroup, and each ideal, the same generators.
 #[derive(Drop)]
@@ -41,7 +42,11 @@ fn printed(alloc: Global, v: &Value) -> Result<Bytes, AllocError> {
 }
 
 fn text(alloc: Global, bytes: &[u8]) -> Result<Value, AllocError> {
-    Ok(Value::Text(Bytes::from_slice(alloc, bytes)?))
+    Ok(Value::Text(Rc::new(alloc, Bytes::from_slice(alloc, bytes)?)?))
+}
+
+fn list(alloc: Global, entries: Vec<Value>) -> Result<Value, AllocError> {
+    Ok(Value::List(Items::from_vec(alloc, entries)?))
 }
 
 #[test]
@@ -51,7 +56,7 @@ fn texts(rt: HostRuntime) -> io::Result<()> {
     let mixed = vec![in alloc;
         text(alloc, b"a\"b\\c\nd\te")?,
         Value::Sem(SemId::new(7)),
-        Value::List(Vec::new(alloc)),
+        list(alloc, Vec::new(alloc))?,
         Value::Bool(true),
     ]?;
     let table = vec![in alloc;
@@ -67,10 +72,10 @@ fn texts(rt: HostRuntime) -> io::Result<()> {
             "[ -1, 0 ] + NumericalSemigroup( [ 3, 5 ] )"
         ),
         (text(alloc, b"a\"b\\c\nd\te")?, "a\"b\\c\nd\te"),
-        (Value::List(Vec::new(alloc)), "[  ]"),
-        (Value::List(numbers), "[ -1, 0, 12 ]"),
+        (list(alloc, Vec::new(alloc))?, "[  ]"),
+        (list(alloc, numbers)?, "[ -1, 0, 12 ]"),
         (
-            Value::List(mixed),
+            list(alloc, mixed)?,
             r#"[ "a\"b\\c\nd\te", NumericalSemigroup( [ 3, 5 ] ), [  ], true ]"#,
         ),
     ]?;
@@ -87,13 +92,13 @@ fn texts(rt: HostRuntime) -> io::Result<()> {
 #[test]
 fn a_deep_value(rt: HostRuntime) -> io::Result<()> {
     let alloc = rt.alloc();
-    let mut deep = Value::List(Vec::new(alloc));
+    let mut deep = list(alloc, Vec::new(alloc))?;
     for _ in 1..64 {
-        deep = Value::List(vec![in alloc; deep]?);
+        deep = list(alloc, vec![in alloc; deep]?)?;
     }
     assert_eq!(rt; (depth(&deep), weight(&deep)), (64, 64));
     assert!(rt; equal(&deep, &try_clone(&deep, alloc)?));
-    assert!(rt; !equal(&deep, &Value::List(Vec::new(alloc))));
+    assert!(rt; !equal(&deep, &list(alloc, Vec::new(alloc))?));
     assert_eq!(rt; printed(alloc, &deep)?.len(), 256);
     Ok(())
 }
@@ -105,7 +110,7 @@ fn a_wide_value(rt: HostRuntime) -> io::Result<()> {
     for n in 0..1000 {
         items.push(Value::Int(n))?;
     }
-    let wide = Value::List(items);
+    let wide = list(alloc, items)?;
     assert_eq!(rt; (depth(&wide), weight(&wide)), (1, 1001));
     assert!(rt; equal(&wide, &try_clone(&wide, alloc)?));
     assert_eq!(rt; printed(alloc, &wide)?.len(), 2 + 2890 + 2 * 999 + 2);
@@ -122,7 +127,7 @@ fn kinds_differ(rt: HostRuntime) -> io::Result<()> {
         Value::Bool(true),
         text(alloc, b"")?,
         text(alloc, b"1")?,
-        Value::List(Vec::new(alloc)),
+        list(alloc, Vec::new(alloc))?,
         Value::Fail,
         Value::Sem(SemId::new(1)),
         Value::Sem(id),
@@ -132,5 +137,23 @@ fn kinds_differ(rt: HostRuntime) -> io::Result<()> {
             assert_eq!(rt; equal(a, b), i == j, "at {i}, {j}");
         }
     }
+    Ok(())
+}
+
+#[test]
+fn what_was_shared_stays(rt: HostRuntime) -> io::Result<()> {
+    let alloc = rt.alloc();
+    let mut one = Items::from_vec(alloc, vec![in alloc; Value::Int(1)]?)?;
+    let other = one.try_clone()?;
+    one.push(alloc, Value::Int(2))?;
+    one.push(alloc, Value::Int(3))?;
+    assert_eq!(rt;
+        printed(alloc, &Value::List(one))?.as_slice(),
+        b"[ 1, 2, 3 ]".as_slice()
+    );
+    assert_eq!(rt;
+        printed(alloc, &Value::List(other))?.as_slice(),
+        b"[ 1 ]".as_slice()
+    );
     Ok(())
 }

@@ -1,9 +1,12 @@
 //! What an expression gives.
 
 use crate::id::{IdealId, SemId};
+use crate::items::Items;
 use sg_nat::Bytes;
+use std::rc::Rc;
 
 /// The value of an expression.
+#[cycle(value)]
 #[derive(Drop)]
 pub enum Value {
     /// An integer.
@@ -13,10 +16,10 @@ pub enum Value {
     Bool(bool),
 
     /// A text, as its bytes.
-    Text(Bytes),
+    Text(Rc<Bytes>),
 
     /// A list of values, each of any kind.
-    List(Vec<Value>),
+    List(Items),
 
     /// No answer.
     Fail,

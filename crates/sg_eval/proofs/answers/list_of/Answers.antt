@@ -26,14 +26,14 @@ listed_so r vs s is_known h =
 
 pub returns-then-depth-gt-DEPTH_LIMIT : goal.returns-then-depth-gt-DEPTH_LIMIT
 returns-then-depth-gt-DEPTH_LIMIT c = λ s is_known.
-    listed_so (Err (Script Depth)) c.args.values.items s is_known (too_deep s.names c.args.values c.depth.result c.depth.ensures c.if-depth-gt-DEPTH_LIMIT.true)
+    listed_so (Err (Script Depth)) c.args.values.items s is_known (too_deep s.names c.args.values.items c.in_ok-from_vec.field-0 c.in_ok-from_vec.ensures c.depth.result c.depth.ensures c.if-depth-gt-DEPTH_LIMIT.true)
 
 pub returns-then-weight-gt-WEIGHT_LIMIT : goal.returns-then-weight-gt-WEIGHT_LIMIT
 returns-then-weight-gt-WEIGHT_LIMIT c = λ s is_known.
     listed_so (Err (Script TooLarge)) c.args.values.items s is_known
-    (too_heavy s.names c.args.values c.depth.result c.weight.result c.depth.ensures c.if-depth-gt-DEPTH_LIMIT.false c.weight.ensures c.if-weight-gt-WEIGHT_LIMIT.true)
+    (too_heavy s.names c.args.values.items c.in_ok-from_vec.field-0 c.in_ok-from_vec.ensures c.depth.result c.weight.result c.depth.ensures c.if-depth-gt-DEPTH_LIMIT.false c.weight.ensures c.if-weight-gt-WEIGHT_LIMIT.true)
 
 pub returns : goal.returns
 returns c = λ s is_known.
-    listed_so (Ok (value.List c.args.values)) c.args.values.items s is_known
-    (within_limits s.names c.args.values c.depth.result c.weight.result c.depth.ensures c.if-depth-gt-DEPTH_LIMIT.false c.weight.ensures c.if-weight-gt-WEIGHT_LIMIT.false is_known)
+    listed_so (Ok (value.List c.in_ok-from_vec.field-0)) c.args.values.items s is_known
+    (within_limits s.names c.args.values.items c.in_ok-from_vec.field-0 c.in_ok-from_vec.ensures c.depth.result c.weight.result c.depth.ensures c.if-depth-gt-DEPTH_LIMIT.false c.weight.ensures c.if-weight-gt-WEIGHT_LIMIT.false is_known)

@@ -1,4 +1,4 @@
-use Rattle.std.proofs.Common.{◌≡◌, ℕ, ◌<◌, pos, ◌+ℤ◌, sym, subst, rules}
+use Rattle.std.proofs.Common.{◌≡◌, ℕ, ◌<◌, pos, ◌+ℤ◌, sym, ◌∙◌, subst, rules}
 use Rattle.std.specs.Prelude.{FitsSigned}
 use Rattle.std.specs.Int.{w64}
 use Rattle.std.proofs.lemmas.Int.{to_z-of_z}
@@ -28,7 +28,7 @@ pub returns : goal.returns
 returns c = λ s.
     let z = c.in_ok-range.range.first in
     let n = c.in_ok-range.range.count in
-    let vs = c.in_ok-integers_from.field-0 in
+    let vs = c.in_ok-integers.integers in
     let fit : FitsSigned w64 z = search rules in
-    let is : contents_of_all vs.items ≡ integers_in z n = of_bits_right (λ a. contents_of_all vs.items ≡ integers_in a n) z fit c.in_ok-integers_from.ensures in
-    row_listed c.in_ok-range.range c.in_ok-integers_from.field-0 s s (λ names. ask (spans (plain names c.args.low.now) (plain names c.args.high.now))) (c.in_ok-range.ensures.row s) is
+    let is : contents_of_all vs.items ≡ integers_in z n = of_bits_right (λ a. contents_of_all vs.items ≡ integers_in a n) z fit c.in_ok-integers.ensures in
+    row_listed c.in_ok-range.range c.in_ok-from_vec.field-0 s s (λ names. ask (spans (plain names c.args.low.now) (plain names c.args.high.now))) (c.in_ok-range.ensures.row s) (c.in_ok-from_vec.ensures ∙ is)

@@ -4,15 +4,15 @@ use Rattle.std.specs.Int.{w64}
 use Rattle.std.proofs.lemmas.Int.{to_z-of_z}
 use Rattle.sg_value.specs.declared.value.Value.TheVariants as value
 use Rattle.sg_value.specs.Known.{named}
-use Rattle.sg_value.specs.Data.{truth}
-use Rattle.sg_value.specs.Plain.{AllKnown, AllKnownIn, plain, plain_of_all}
+use Rattle.sg_value.specs.Data.{truth, EachThingOfAll}
+use Rattle.sg_value.specs.Plain.{AllKnown, AllKnownIn, IsKnown, plain, plain_of_all}
 use Rattle.sg_tree.specs.Tree.{call, variable, display, span, item, minus, negation, chain, compare}
 use Rattle.sg_tree.specs.TreeView.{tree_of, trees_of, links_of}
 use Rattle.sg_tree.proofs.ExpressionLevels.{view-Var, view-Display, view-Span, view-Item, view-Minus, view-Not, view-Chain, view-Compare}
 use Rattle.sg_eval.specs.Expressions.{folded, eval, eval_all, eval_places, eval_links, negated, turned, decided, ask, relation, eval_given, eval_folding, plain_alone}
 use Rattle.sg_eval.specs.Linked.{placed, linked, ends_chain, compared_with, next_from, items_from, start_of}
 use Rattle.sg_eval.specs.Machine.{state_of}
-use Rattle.sg_eval.specs.Outcomes.{Evaluates, plain_in, known_in}
+use Rattle.sg_eval.specs.Outcomes.{Evaluates, plain_in, known_in, plain_items, known_items}
 use Rattle.sg_eval.specs.Process.{gives, refuses, ◌>>=◌}
 use Rattle.sg_eval.specs.Queries.{lists, combines, indexes, spans, calls}
 use Rattle.sg_eval.proofs.Evaluating.{evaluates_exit, evaluates_then, evaluates_on, evaluates_gives, evaluates_as, evaluates_memory, known_later, all_known_later, evaluates_bound, evaluates_bound_exit, evaluates_later, plain_later}
@@ -642,13 +642,13 @@ fold_call-returns-in_err-entries-in-Arrow t c =
     (subst (λ y. Evaluates plain AllKnown r s1 s1 (λ names. fold_rest s1.parameters fold y (plain_if names o))) (sym seen)
     (evaluates_as plain AllKnown r s1 s1 (λ names. listed_if (plain_if names o) (λ ds. gives ds) >>= folded fold (λ e. eval ((x, e) ∷ s1.parameters) tree)) (λ names. listed_if (plain_if names o) (folded fold (λ e. eval ((x, e) ∷ s1.parameters) tree)))
     (λ names. listed_if_bind (plain_if names o) (folded fold (λ e. eval ((x, e) ∷ s1.parameters) tree)))
-    (evaluates_exit plain_in known_in plain AllKnown r _ s1 s1 (λ names. listed_if (plain_if names o) (λ ds. gives ds)) (λ names. folded fold (λ e. eval ((x, e) ∷ s1.parameters) tree)) c.from_residual-in_err-entries-in-Arrow.ensures.1
+    (evaluates_exit plain_items known_items plain AllKnown r _ s1 s1 (λ names. listed_if (plain_if names o) (λ ds. gives ds)) (λ names. folded fold (λ e. eval ((x, e) ∷ s1.parameters) tree)) c.from_residual-in_err-entries-in-Arrow.ensures.1
     (c.in_err-entries-in-Arrow.ensures s1 c.in_ok-first.ensures.is_known)))))
 
 pub fold_call-folded-requires : goal.fold_call-folded-requires
 fold_call-folded-requires t c =
     let s1 = state_of c.argument.new.machine in
-    (search (rules, argument_lemmas, the_lemmas), subst (AllKnownIn (named s1.names)) (sym c.deref.ensures.value) (c.in_ok-entries-in-Arrow.ensures s1 c.in_ok-first.ensures.is_known).is_known)
+    (search (rules, argument_lemmas, the_lemmas), subst (EachThingOfAll (IsKnown (named s1.names))) (sym c.as_slice.ensures) (c.in_ok-entries-in-Arrow.ensures s1 c.in_ok-first.ensures.is_known).is_known)
 
 pub fold_call-returns-in_ok-entries-in-Arrow : goal.fold_call-returns-in_ok-entries-in-Arrow
 fold_call-returns-in_ok-entries-in-Arrow t c =
@@ -664,7 +664,7 @@ fold_call-returns-in_ok-entries-in-Arrow t c =
     let r = c.folded.result in
     let x = c.in-Arrow.parameter in
     let tree = tree_of c.in-Arrow.body in
-    let vs = c.in_ok-entries-in-Arrow.entries in
+    let ds = c.in_ok-entries-in-Arrow.entries in
     let over = λ (e : Plain). eval ((x, e) ∷ s1.parameters) tree in
     let seen = ap argument_of c.in-Arrow.is ∙ view-Arrow x c.in-Arrow.body in
     fold_as ps fold gs a b s s2 r c.if-args-ne2.false c.index-args-0.is c.index-args-1.is
@@ -672,9 +672,9 @@ fold_call-returns-in_ok-entries-in-Arrow t c =
     (subst (λ y. Evaluates plain AllKnown r s1 s2 (λ names. fold_rest s1.parameters fold y (plain_if names o))) (sym seen)
     (evaluates_as plain AllKnown r s1 s2 (λ names. listed_if (plain_if names o) (λ ds. gives ds) >>= folded fold over) (λ names. listed_if (plain_if names o) (folded fold over))
     (λ names. listed_if_bind (plain_if names o) (folded fold over))
-    (evaluates_then plain_in known_in plain AllKnown vs r s1 s1 s2 (λ names. listed_if (plain_if names o) (λ ds. gives ds)) (λ names. folded fold over) (c.in_ok-entries-in-Arrow.ensures s1 c.in_ok-first.ensures.is_known)
-    (evaluates_as plain AllKnown r s1 s2 (λ names. fold_on fold over none (plain_of_all names vs.items)) (λ names. folded fold over (plain_of_all names vs.items)) (λ names. fold_is over fold (plain_of_all names vs.items))
-    (subst (λ ws. Evaluates plain AllKnown r s1 s2 (λ names. fold_on fold over none (plain_of_all names ws))) c.deref.ensures.value c.folded.ensures))))))
+    (evaluates_then plain_items known_items plain AllKnown ds r s1 s1 s2 (λ names. listed_if (plain_if names o) (λ es. gives es)) (λ names. folded fold over) (c.in_ok-entries-in-Arrow.ensures s1 c.in_ok-first.ensures.is_known)
+    (evaluates_as plain AllKnown r s1 s2 (λ names. fold_on fold over none (plain_items names ds)) (λ names. folded fold over (plain_items names ds)) (λ names. fold_is over fold (plain_items names ds))
+    (subst (λ es. Evaluates plain AllKnown r s1 s2 (λ names. fold_on fold over none (plain_items names es))) c.as_slice.ensures c.folded.ensures))))))
 
 pub folded-apply-requires : goal.folded-apply-requires
 folded-apply-requires t c =

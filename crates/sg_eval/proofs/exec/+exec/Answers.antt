@@ -10,7 +10,7 @@ use Rattle.sg_tree.proofs.StatementLevels.{view-Empty, view-Quit, view-Assign, v
 use Rattle.sg_tree.proofs.stmt.Stmt.TheLaws.{the_size}
 use Rattle.sg_eval.specs.Machine.{state_of}
 use Rattle.sg_value.specs.Data.{int}
-use Rattle.sg_eval.specs.Outcomes.{Evaluates}
+use Rattle.sg_eval.specs.Outcomes.{Evaluates, plain_items}
 use Rattle.sg_eval.specs.Queries.{integers_from}
 use Rattle.sg_eval.specs.Ranges.{entries_in, are_known}
 use Rattle.sg_eval.proofs.Ranged.{integers_left, integers_all, integers_over, counted_step}
@@ -107,19 +107,19 @@ exec-returns-else-branch-clause-done g t c =
     (executed_as (arm_done arms >>= (λ b. if b then gives tt else other)) _ r s s2 o o2 (choose_step arms other)
     (executed_then (arm_done arms) (λ b. if b then gives tt else other) false r s s1 s2 o o1 o2 h (subst (λ ss. Executed r s1 s2 o1 o2 (exec_all (block_of ss))) c.deref-in-If.ensures.value c.exec_all.ensures.done)))
 
-pub exec-returns-in_err-entries-in-For-clause-done : goal.exec-returns-in_err-entries-in-For-clause-done
-exec-returns-in_err-entries-in-For-clause-done g t c =
+pub exec-returns-in_err-list-in-For-clause-done : goal.exec-returns-in_err-list-in-For-clause-done
+exec-returns-in_err-list-in-For-clause-done g t c =
     let s = state_of c.args.machine.now in
     let s1 = state_of c.list_of.new.machine in
     let o = g.W.Sink.taken c.args.out.now in
     let x = c.in-For.name in
     let list = tree_of c.in-For.e in
     let body = block_of c.in-For.body.items in
-    let r = c.from_residual-in_err-entries-in-For.result in
+    let r = c.from_residual-in_err-list-in-For.result in
     subst (λ k. Executed r s s1 o o (exec k)) (sym (ap code_of c.in-For.is ∙ view-For x c.in-For.e c.in-For.body))
     (executed_as (listed_of [] list >>= over (λ e. sets x e (exec_all body))) _ r s s1 o o (each_step x list body)
-    (executed_exit entries_in are_known (listed_of [] list) (over (λ e. sets x e (exec_all body))) r _ s s1 o c.from_residual-in_err-entries-in-For.ensures.1
-    (at_top entries_in are_known _ s s1 (λ ps. listed_of ps list) c.requires c.in_err-entries-in-For.ensures)))
+    (executed_exit entries_in are_known (listed_of [] list) (over (λ e. sets x e (exec_all body))) r _ s s1 o c.from_residual-in_err-list-in-For.ensures.1
+    (at_top entries_in are_known _ s s1 (λ ps. listed_of ps list) c.requires c.in_err-list-in-For.ensures)))
 
 pub exec-returns-in-Listed-clause-done : goal.exec-returns-in-Listed-clause-done
 exec-returns-in-Listed-clause-done g t c =
@@ -131,14 +131,14 @@ exec-returns-in-Listed-clause-done g t c =
     let x = c.in-For.name in
     let list = tree_of c.in-For.e in
     let body = block_of c.in-For.body.items in
-    let es = c.in_ok-entries-in-For.field-0 in
+    let es = c.in_ok-list-in-For.field-0 in
     let r = c.repeat.result in
-    let did = subst (λ ws. Executed r s1 s2 o o2 (over (λ e. sets x e (exec_all body)) (plain_of_all (named s1.names) ws))) c.deref-in-Listed-2.ensures.value
-    (subst (λ ss. Executed r s1 s2 o o2 (over (λ e. sets x e (exec_all (block_of ss))) (plain_of_all (named s1.names) c.deref-in-Listed-2.result.now))) c.deref-in-Listed.ensures.value c.repeat.ensures.done) in
+    let did = subst (λ ds. Executed r s1 s2 o o2 (over (λ e. sets x e (exec_all body)) (plain_items (named s1.names) ds))) c.as_slice.ensures
+    (subst (λ ss. Executed r s1 s2 o o2 (over (λ e. sets x e (exec_all (block_of ss))) (plain_of_all (named s1.names) c.as_slice.result.now))) c.deref-in-Listed.ensures.value c.repeat.ensures.done) in
     subst (λ k. Executed r s s2 o o2 (exec k)) (sym (ap code_of c.in-For.is ∙ view-For x c.in-For.e c.in-For.body))
     (executed_as (listed_of [] list >>= over (λ e. sets x e (exec_all body))) _ r s s2 o o2 (each_step x list body)
     (executed_value entries_in are_known (listed_of [] list) (over (λ e. sets x e (exec_all body))) es r s s1 s2 o o2
-    (at_top entries_in are_known (Ok es) s s1 (λ ps. listed_of ps list) c.requires c.in_ok-entries-in-For.ensures)
+    (at_top entries_in are_known (Ok es) s s1 (λ ps. listed_of ps list) c.requires c.in_ok-list-in-For.ensures)
     (subst (λ y. Executed r s1 s2 o o2 (over (λ e. sets x e (exec_all body)) (entries_in (named s1.names) y))) (sym c.in-Listed.is) did)))
 
 pub exec-returns-in-Counted-clause-done : goal.exec-returns-in-Counted-clause-done
@@ -151,14 +151,14 @@ exec-returns-in-Counted-clause-done g t c =
     let x = c.in-For.name in
     let list = tree_of c.in-For.e in
     let body = block_of c.in-For.body.items in
-    let es = c.in_ok-entries-in-For.field-0 in
+    let es = c.in_ok-list-in-For.field-0 in
     let row = c.in-Counted.range in
     let r = c.count_up.result in
     let did = subst (λ ss. Executed r s1 s2 o o2 (over (λ e. sets x e (exec_all (block_of ss))) (integers_from row.first row.count))) c.deref-in-Counted.ensures.value c.count_up.ensures.done in
     subst (λ k. Executed r s s2 o o2 (exec k)) (sym (ap code_of c.in-For.is ∙ view-For x c.in-For.e c.in-For.body))
     (executed_as (listed_of [] list >>= over (λ e. sets x e (exec_all body))) _ r s s2 o o2 (each_step x list body)
     (executed_value entries_in are_known (listed_of [] list) (over (λ e. sets x e (exec_all body))) es r s s1 s2 o o2
-    (at_top entries_in are_known (Ok es) s s1 (λ ps. listed_of ps list) c.requires c.in_ok-entries-in-For.ensures)
+    (at_top entries_in are_known (Ok es) s s1 (λ ps. listed_of ps list) c.requires c.in_ok-list-in-For.ensures)
     (subst (λ y. Executed r s1 s2 o o2 (over (λ e. sets x e (exec_all body)) (entries_in (named s1.names) y))) (sym c.in-Counted.is) did)))
 
 pub exec_all-loop-stmt-init : goal.exec_all-loop-stmt-init

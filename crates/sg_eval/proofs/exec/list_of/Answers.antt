@@ -7,7 +7,7 @@ use Rattle.sg_tree.specs.TreeView.{tree_of}
 use Rattle.sg_tree.proofs.ExpressionLevels.{view-Span}
 use Rattle.sg_eval.specs.Expressions.{eval, listed}
 use Rattle.sg_eval.specs.Machine.{state_of}
-use Rattle.sg_eval.specs.Outcomes.{Evaluates, plain_in, known_in}
+use Rattle.sg_eval.specs.Outcomes.{Evaluates, plain_items, known_items}
 use Rattle.sg_eval.specs.Process.{gives, ◌>>=◌}
 use Rattle.sg_eval.specs.Ranges.{ranged, entries_in, are_known}
 use Rattle.sg_eval.specs.Steps.{listed_of}
@@ -76,14 +76,14 @@ returns-in_err-entries c =
     let h = c.in_ok-value.ensures in
     let r = c.from_residual-in_err-entries.result in
     evaluates_then plain AllKnown entries_in are_known v r s s1 s1 (λ names. eval s.parameters (tree_of c.args.e.now)) (λ names d. listed (as_list d) (λ ds. gives ds)) h
-    (exit_as plain_in known_in entries_in are_known r _ s1 s1 (λ names. listed (as_list (plain names v)) (λ ds. gives ds)) c.from_residual-in_err-entries.ensures.1 (c.in_err-entries.ensures s1 h.is_known))
+    (exit_as plain_items known_items entries_in are_known r _ s1 s1 (λ names. listed (as_list (plain names v)) (λ ds. gives ds)) c.from_residual-in_err-entries.ensures.1 (c.in_err-entries.ensures s1 h.is_known))
 
 pub returns : goal.returns
 returns c =
     let s = state_of c.args.machine.now in
     let s1 = state_of c.eval-2.new.machine in
     let v = c.in_ok-value.value in
-    let vs = c.in_ok-entries.field-0 in
+    let ds = c.in_ok-entries.field-0 in
     let h = c.in_ok-value.ensures in
-    evaluates_then plain AllKnown entries_in are_known v (Ok (entries.Listed vs)) s s1 s1 (λ names. eval s.parameters (tree_of c.args.e.now)) (λ names d. listed (as_list d) (λ ds. gives ds)) h
-    (entries_listed vs s1 s1 (λ names. listed (as_list (plain names v)) (λ ds. gives ds)) (c.in_ok-entries.ensures s1 h.is_known))
+    evaluates_then plain AllKnown entries_in are_known v (Ok (entries.Listed ds)) s s1 s1 (λ names. eval s.parameters (tree_of c.args.e.now)) (λ names d. listed (as_list d) (λ ds. gives ds)) h
+    (entries_listed ds s1 s1 (λ names. listed (as_list (plain names v)) (λ ds. gives ds)) (c.in_ok-entries.ensures s1 h.is_known))

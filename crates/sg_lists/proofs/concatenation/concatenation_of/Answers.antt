@@ -25,4 +25,4 @@ returns c = λ store known.
     let vs = c.args.lists.now in
     let all : (ds : Items Places) × (joined (contents_of_all vs) ≡ Some ds) = some_of (joined (contents_of_all vs)) (c.are_lists.ensures.0 c.if-not-are_lists.false) in
     within store vs all.0 all.1 (λ h. let t : false ≡ true = sym c.if-are_deep.false ∙ c.are_deep.ensures.1 h in cc) (λ h. let t : false ≡ true = sym c.if-are_heavy.false ∙ (c.are_heavy.ensures all.0 all.1).1 h in cc) known
-    c.in_ok-copies_of_all.field-0 (c.in_ok-copies_of_all.ensures all.0 all.1)
+    c.in_ok-from_vec.field-0 (c.in_ok-from_vec.ensures ∙ c.in_ok-copies_of_all.ensures all.0 all.1)

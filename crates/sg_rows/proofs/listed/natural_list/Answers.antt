@@ -8,4 +8,4 @@ pub returns-then-is_heavy : goal.returns-then-is_heavy
 returns-then-is_heavy c = λ store. replies_heavy_naturals store c.args.ns.now (c.is_heavy.ensures.0 c.if-is_heavy.true)
 
 pub returns : goal.returns
-returns c = λ store. replies_naturals store c.args.ns.now (value.List c.in_ok-natural_values.field-0) (contents-List c.in_ok-natural_values.field-0 ∙ ap list c.in_ok-natural_values.ensures) (light (length c.args.ns.now) c.is_heavy.result c.if-is_heavy.false c.is_heavy.ensures.1)
+returns c = λ store. replies_naturals store c.args.ns.now (value.List c.in_ok-from_vec.field-0) (contents-List c.in_ok-from_vec.field-0 ∙ ap list (c.in_ok-from_vec.ensures ∙ c.in_ok-natural_values.ensures)) (light (length c.args.ns.now) c.is_heavy.result c.if-is_heavy.false c.is_heavy.ensures.1)

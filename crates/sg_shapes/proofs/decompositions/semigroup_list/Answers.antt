@@ -9,5 +9,5 @@ returns-then-is_heavy-clause-reply c = replies_heavy_names c.args.store.now c.ar
 pub returns-clause-reply : goal.returns-clause-reply
 returns-clause-reply c =
     let values = c.in_ok-semigroup_values.field-0 in
-    replies_names c.semigroup_values.new.store values c.args.lists.now c.in_ok-semigroup_values.ensures.plain c.in_ok-semigroup_values.ensures.known
+    replies_names c.semigroup_values.new.store values.items c.in_ok-from_vec.field-0 c.args.lists.now c.in_ok-from_vec.ensures c.in_ok-semigroup_values.ensures.plain c.in_ok-semigroup_values.ensures.known
     (light (length c.args.lists.now) c.is_heavy.result c.if-is_heavy.false c.is_heavy.ensures.1)

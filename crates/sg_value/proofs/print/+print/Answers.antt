@@ -1,11 +1,11 @@
-use Rattle.std.proofs.Common.{◌<◌, ◌≤◌, arith, length, subst, sym}
-use denote.Param.Weighed.{most, at_most}
-use Rattle.sg_value.specs.Plain.{plain_of_all}
+use Rattle.std.proofs.Common.{◌<◌, ◌≤◌, arith, length}
+use Rattle.sg_value.specs.Data.{depth_of, depth_of_all}
+use Rattle.sg_value.specs.Plain.{contents, contents_of_all, plain_of_all}
 use Rattle.sg_value.specs.Text.{entry_texts}
 use Rattle.sg_value.proofs.Entries.{AllKnownIn-at, length-entry_texts, entries-next}
 use Rattle.sg_value.proofs.Fronts.{front_more, front_after, next_added, next_front, Adds_err, Adds_each, Adds-after}
 use Rattle.sg_value.proofs.Pieces.{joined-all}
-use Rattle.sg_value.proofs.value.Value.TheLaws.{the_size}
+use Rattle.sg_value.proofs.EqualLists.{depth_of-at}
 use Rattle.sg_value.proofs.print.+print.Goals as goal
 
 pub add_list-returns-in_err-add : goal.add_list-returns-in_err-add
@@ -46,5 +46,5 @@ add_each_entry-add_separated_entry-requires g t c κs outlives =
     let v = c.index-items-i.result in
     let within : c.loop-i.i < length items = c.loop-i-test.true in
     let known = AllKnownIn-at (g.N.Names.named c.args.names.now) items c.loop-i.i v v c.requires.known within c.index-items-i.is in
-    let smaller : the_size v ≤ most (λ x. the_size x) items = subst (λ x. the_size x ≤ most (λ y. the_size y) items) (sym c.index-items-i.is) (at_most (λ x. the_size x) items c.loop-i.i v within) in
-    (omega arith, (outlives, known))
+    let smaller : depth_of (contents v) ≤ depth_of_all (contents_of_all items) = rw c.index-items-i.is (depth_of-at items c.loop-i.i v within) in
+    (omega (arith, smaller, c.decreases), (outlives, known))

@@ -1,4 +1,4 @@
-use Rattle.std.proofs.Common.{◌≡◌, List, ℕ, ℤ, Some, ap₂, sym, ◌∙◌, ap}
+use Rattle.std.proofs.Common.{◌≡◌, List, ℕ, ℤ, Some, ap₂, sym, ◌∙◌}
 use Rattle.sg_value.specs.Data.{ideals}
 use Rattle.sg_value.specs.Plain.{RelativeIdeal, thing_at}
 use Rattle.sg_value.specs.Text.{ideal_text}
