@@ -1,0 +1,3 @@
+pub mod KnownLists
+pub mod FactorizationSamples
+pub mod DeltaSamples
