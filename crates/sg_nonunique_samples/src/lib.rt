@@ -8,5 +8,9 @@
 //! No crate needs to stand on this one, and it knows no algorithm but the listings of `sg_finite`.
 #![tactic(auto)]
 
+pub mod catenary;
+pub mod classes;
 pub mod deltas;
 pub mod factorizations;
+pub mod omega;
+pub mod presentations;
