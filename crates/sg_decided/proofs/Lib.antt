@@ -1,3 +1,4 @@
 pub mod SymmetryDecisions
 pub mod DecompositionExists
 pub mod SaturationExists
+pub mod DecompositionIrredundant

@@ -2,7 +2,7 @@
 
 ghost use Rattle.std.specs.Prelude.{◌≡◌, ◌⊎◌, ◌↔◌, ◌-ℤ◌, ℕ, ℤ, List, length, slice_index};
 ghost use Rattle.sg_defs.specs.Closures.{IsMed, IsSaturated, IsSaturatedClosure};
-ghost use Rattle.sg_defs.specs.Decomposition.{IsDecomposition};
+ghost use Rattle.sg_defs.specs.Decomposition.{IsDecomposition, IsIrredundant};
 ghost use Rattle.sg_defs.specs.Invariants.{IsFrobenius};
 ghost use Rattle.sg_defs.specs.Membership.{IsIntegerMember, IsMinimal, IsNumericalSemigroup};
 ghost use Rattle.sg_defs.specs.Symmetry.{IsSymmetric, IsPseudoSymmetric, IsIrreducible, IsReducible};
@@ -35,6 +35,13 @@ pub fn maximal_embedding_dimension_is_counted()
 /// Each numerical semigroup has a decomposition by its special gaps.
 pub fn a_decomposition_exists()
     ensures { (G : List ℕ) → IsNumericalSemigroup G → (L : List (List ℕ)) × IsDecomposition G L }
+{}
+
+/// A decomposition of a numerical semigroup by its special gaps is of irreducible semigroups that meet in it, and each of
+/// them is needed (Rosales and Garcia-Sanchez, on irreducible numerical semigroups). Nothing else is asked, no limit
+/// either.
+pub fn a_decomposition_is_irredundant()
+    ensures { (G : List ℕ) (L : List (List ℕ)) → IsNumericalSemigroup G → IsDecomposition G L → IsIrredundant G L }
 {}
 
 /// Of each numerical semigroup it is decided whether it is saturated, and it has a saturated closure.

@@ -5,3 +5,4 @@ pub mod IdealSets
 pub mod OwnSets
 pub mod InstancesExist
 pub mod SizeDecisions
+pub mod OwnGenerators

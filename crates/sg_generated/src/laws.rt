@@ -1,8 +1,10 @@
 //! Laws over the definitions, each the contract of a function that does nothing.
 
-ghost use Rattle.std.specs.Prelude.{◌≡◌, ◌<◌, ℕ, ℤ, Bool, IsTrue, List, length};
+ghost use Rattle.std.specs.Prelude.{◌≡◌, ◌<◌, ◌↔◌, ◌-ℤ◌, ℕ, ℤ, pos, Bool, IsTrue, List, [], ◌∷◌, length, map, Contains};
 ghost use Rattle.sg_defs.specs.Ideals.{IsIdealMember, IsInSum, IsInDifference, IsInMultiple, IsInTranslate, IsInCanonical, IsInMaximal};
-ghost use Rattle.sg_defs.specs.Membership.{IsNumericalSemigroup};
+ghost use Rattle.sg_defs.specs.Invariants.{IsFrobenius, IsPseudoFrobenius};
+ghost use Rattle.sg_defs.specs.Membership.{IsIntegerMember, IsMinimal, IsNumericalSemigroup};
+ghost use Rattle.sg_defs.specs.Symmetry.{IsSymmetric};
 ghost use Rattle.sg_ideal.specs.Value.{GeneratesIdeal, HasLargeGenerator, IsInBoth};
 ghost use Rattle.sg_lawful.specs.Generators.{AreSmall};
 ghost use Rattle.sg_exist.specs.Decided.{Decided};
@@ -39,6 +41,20 @@ pub fn operations_on_ideals_have_minimal_lists()
 pub fn the_canonical_and_the_maximal_ideal_have_minimal_lists()
     ensures canonical { (G : List ℕ) → IsNumericalSemigroup G → HasIdeal G (IsInCanonical G) }
     ensures maximal { (G : List ℕ) → IsNumericalSemigroup G → HasIdeal G (IsInMaximal G) }
+{}
+
+/// The minimal generators of the maximal ideal are those of the semigroup. Those of the canonical ideal are the Frobenius
+/// number less each pseudo-Frobenius number (Rosales and Garcia-Sanchez, Numerical Semigroups, 2009).
+pub fn the_canonical_and_the_maximal_ideal_have_these_generators()
+    ensures maximal { (G : List ℕ) → IsNumericalSemigroup G → IsMinimal G → GeneratesIdeal G (IsInMaximal G) (map (λ n. pos n) G) }
+    ensures canonical { (G : List ℕ) (f : ℤ) (I : List ℤ) → IsFrobenius G f → GeneratesIdeal G (IsInCanonical G) I → (x : ℤ) → Contains I x ↔ IsPseudoFrobenius G (f -ℤ x) }
+{}
+
+/// The semigroup as an ideal is that of 0, with the semigroup's members; it is the canonical ideal exactly where the
+/// semigroup is symmetric (Rosales and Garcia-Sanchez, Numerical Semigroups, 2009).
+pub fn a_semigroup_is_the_ideal_of_zero()
+    ensures members { (G : List ℕ) (x : ℤ) → IsIdealMember G (pos 0 ∷ []) x ↔ IsIntegerMember G x }
+    ensures symmetric { (G : List ℕ) → IsNumericalSemigroup G → GeneratesIdeal G (IsInCanonical G) (pos 0 ∷ []) ↔ IsSymmetric G }
 {}
 
 /// Of each list it is decided whether all its entries are within the limit; and where a minimal generator of an ideal is
