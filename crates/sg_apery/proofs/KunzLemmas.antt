@@ -151,6 +151,18 @@ pub class-table : (t D : List ℕ) → IsKunz t → AreClassGenerators t D → I
 class-table t D k g = kunz-table t D k (class-semigroup t D k.classes g.keeps g.adds_none)
     (λ n. (member-made t D k.classes g.keeps n, above-member t k D g.adds_none n))
 
+-- a list that meets Kunz's conditions is the Apery list of some semigroup
+pub kunz-has_table : (t : List ℕ) → IsKunz t → (G : List ℕ) × IsAperyTable G t
+kunz-has_table t k =
+    let D = class_generators t in (
+      D,
+      kunz-table t D k (class-semigroup t D k.classes (λ x h. h) (λ x h. h)) (λ n. (member-made t D k.classes (λ x h. h) n, above-member t k D (λ x h. h) n)),
+    )
+
+-- and of each that has the numbers above its entries
+pub kunz-generated_table : (t M : List ℕ) → IsKunz t → Generates (IsAboveEntry t) M → IsAperyTable M t
+kunz-generated_table t M k g = kunz-table t M k g.semigroup g.same
+
 -- what the generators make is what is above its entry
 pub class-generates : (t D M : List ℕ) → IsKunz t → AreClassGenerators t D → Generates (IsMember D) M → Generates (IsAboveEntry t) M
 class-generates t D M k g h = record {

@@ -1,8 +1,8 @@
 -- From a settled table to the Apery list, and from there to membership.
 use Rattle.std.proofs.Common.{◌≡◌, ℕ, ◌+◌, ◌-◌, ◌%◌, ◌^◌, ◌<◌, ◌≤◌, ◌↔◌, List, length, get_or, set, refl, sym, ap, subst, ◌∙◌, inl, inr, arith}
 use Rattle.std.specs.Int.Signed.{lt_z}
-use Rattle.std.specs.Prelude.{false, ℤ, pos, negsuc, nat_abs, IsTrue, nat_le, nat_lt}
-use Rattle.std.proofs.lemmas.Bool.{cases_eq, leb-true, le-leb}
+use Rattle.std.specs.Prelude.{Bool, false, ℤ, pos, negsuc, nat_abs, IsTrue, nat_lt}
+use Rattle.std.proofs.lemmas.Bool.{cases_eq}
 use Rattle.std.proofs.lemmas.Nat.{mod_below}
 use Rattle.std.proofs.lemmas.List.{length-set, get_or-set_same, get_or-set_other, get_or_default}
 use Rattle.std.proofs.lemmas.List.Sums.{count_by-le-length}
@@ -87,12 +87,9 @@ contains-natural G t n w h read =
     ((λ l. both.1 (subst (λ v. v ≤ n) same l)), (λ q. subst (λ v. v ≤ n) (sym same) (both.0 q)))
 
 -- the same for an integer that is not below 0
-pub contains-integer : (G t : List ℕ) (x : ℤ) (len w : ℕ) → IsTable G t → lt_z x (pos 0) ≡ false → len ≡ length t → w ≡ get_or t (nat_abs x % len) w →
-    IsTrue (nat_le w (nat_abs x)) ↔ IsIntegerMember G x
-contains-integer G t (pos n) len w h low same read =
-    let both = contains-natural G t n w h (subst (λ m. w ≡ get_or t (n % m) w) same read) in
-    ((λ l. both.0 (leb-true w n l)), (λ q. le-leb w n (both.1 q)))
-contains-integer G t (negsuc n) len w h low same read = absurd cc
+pub contains-integer : (G : List ℕ) (x : ℤ) (b : Bool) → lt_z x (pos 0) ≡ false → IsTrue b ↔ IsMember G (nat_abs x) → IsTrue b ↔ IsIntegerMember G x
+contains-integer G (pos n) b low h = h
+contains-integer G (negsuc n) b low h = absurd cc
 
 -- an entry of the table is that of the Apery list
 pub entry-read : (G t : List ℕ) (i w : ℕ) → IsMinimalTable G t → i < get_or G 0 0 → w ≡ get_or t i w → IsAperyEntry G (get_or G 0 0) i w

@@ -2,6 +2,8 @@
 use Rattle.std.specs.Prelude.{◌≡◌, ℕ, ◌%◌, ◌<◌, ◌≤◌, ◌↔◌, List, slice_index}
 use Rattle.sg_defs.specs.Membership.{IsMember, Generates}
 use Rattle.sg_defs.specs.Apery.{IsApery}
+use Rattle.sg_apery.specs.Classes.{IsKunz}
+use Rattle.sg_apery.specs.Table.{IsAperyTable}
 
 -- two minimal lists of the members of one list are the same
 abbrev pub HasOneMinimalList : Type 0
@@ -11,3 +13,7 @@ HasOneMinimalList = (G M N : List ℕ) → Generates (IsMember G) M → Generate
 abbrev pub TellsMembership : Type 0
 TellsMembership = (G : List ℕ) (n : ℕ) (t : List ℕ) → 0 < n → IsMember G n → IsApery G n t → (x : ℕ) →
     IsMember G x ↔ (slice_index t (x % n) ≤ x)
+
+-- a list meets Kunz's conditions exactly where it is the Apery list of a numerical semigroup, modulo a member
+abbrev pub AreAperyLists : Type 0
+AreAperyLists = (t : List ℕ) → IsKunz t ↔ ((G : List ℕ) × IsAperyTable G t)

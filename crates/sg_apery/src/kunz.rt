@@ -6,6 +6,7 @@ ghost use Rattle.sg_apery.specs.Classes.{AreClassGenerators, IsAboveEntry, IsCla
 ghost use Rattle.sg_apery.specs.Conditions.{IsAperyRefused};
 ghost use Rattle.sg_apery.specs.Fit.{IsFit, IsPastLimits, IsSizeFault};
 ghost use Rattle.sg_apery.specs.Relaxation.{IsSpread};
+ghost use Rattle.sg_apery.specs.Table.{IsAperyTable};
 
 use crate::arguments::are_small;
 use crate::fault::TableFault;
@@ -145,12 +146,13 @@ pub fn from_kunz(alloc: Global, list: &[u64]) -> Result<Table, TableFault>
 
 impl Table {
     /// The numerical semigroup that has this Apery list modulo the number of its entries: its members are the numbers
-    /// that are at least the entry of their residue class. The list is one exactly where it meets Kunz's conditions
-    /// (Rosales and Garcia-Sanchez, Numerical Semigroups, 2009).
+    /// that are at least the entry of their residue class. The list is one exactly where it meets Kunz's conditions, as
+    /// `laws` has it (Rosales and Garcia-Sanchez, Numerical Semigroups, 2009).
     ///
     /// BadArgument where it does not; then TooLarge where the semigroup is past the limits.
     pub fn from_apery(alloc: Global, list: &[u64]) -> Result<Table, TableFault>
         ensures generated { IfOk result (λ table. Generates (IsAboveEntry list.now) table) }
+        ensures apery { IfOk result (λ table. IsAperyTable table list.now) }
         ensures accepted { OnOk result (IsKunz list.now) }
         ensures refused { IfErr result (IsAperyRefused list.now) }
     {

@@ -1,7 +1,7 @@
 //! The table of a numerical semigroup, and what it answers.
 
 ghost use Rattle.std.specs.Prelude.{◌≡◌, ◌*◌, ◌<◌, ◌≤◌, length, EachIndex, slice_index, IsTrue, ◌↔◌};
-ghost use Rattle.sg_defs.specs.Membership.{IsNumericalSemigroup, IsIntegerMember, IsMinimal};
+ghost use Rattle.sg_defs.specs.Membership.{IsNumericalSemigroup, IsIntegerMember, IsMember, IsMinimal};
 ghost use Rattle.sg_defs.specs.Apery.{IsApery, IsAperyEntry};
 ghost use Rattle.sg_apery.specs.Fit.{IsFit, IsNarrow, IsSpan};
 ghost use Rattle.sg_apery.specs.Table.{IsMinimalTable};
@@ -40,6 +40,13 @@ impl Table {
         Table { generators, apery }
     }
 
+    /// Whether a natural is a member, by one comparison. It takes no memory.
+    pub fn contains_natural(&self, n: u64) -> bool
+        ensures { IsTrue result ↔ IsMember self.now n }
+    {
+        self.apery[(n % self.apery.len() as u64) as usize] <= n
+    }
+
     /// Whether an integer is a member, by one comparison. It takes no memory.
     pub fn contains(&self, x: i64) -> bool
         ensures { IsTrue result ↔ IsIntegerMember self.now x }
@@ -47,8 +54,7 @@ impl Table {
         if x < 0 {
             return false;
         }
-        let n = x as u64;
-        self.apery[(n % self.apery.len() as u64) as usize] <= n
+        self.contains_natural(x as u64)
     }
 
     /// The minimal generators, ascending.

@@ -12,6 +12,7 @@ use Rattle.sg_defs.specs.Invariants.{IsFrobenius, IsPseudoFrobenius}
 use Rattle.sg_defs.specs.Ideals.{IsIdealMember, IsInCanonical, IsInMaximal, IsMinimalIdeal}
 use Rattle.sg_defs.proofs.OneLemmas.{one-frobenius}
 use Rattle.sg_defs.proofs.MembershipLemmas.{member-zero, member-add, member-entry}
+use Rattle.sg_apery.specs.declared.limits.TheConstants.{APERY_ENTRY_LIMIT}
 use Rattle.sg_apery.specs.Fit.{IsFit}
 use Rattle.sg_apery.proofs.GeneratorLemmas.{contains-place, entry-positive, member-listed, member-split}
 use Rattle.sg_invar.proofs.PseudoFrobeniusLemmas.{outside-below, pseudo_frobenius-from_generators, pseudo_frobenius-low}
@@ -194,9 +195,9 @@ reflected-push h l r k x long e each i less = elim (cases_lt i k) [
 ]
 
 -- the pseudo-Frobenius numbers lie between -1 and the Frobenius number
-pub pseudo-within : (G : List ℕ) (f : ℤ) (pf : List ℤ) → IsFrobenius G f → negsuc 0 ≤ℤ f → f ≤ℤ pos 4503599627370496 → ListsIntegers (IsPseudoFrobenius G) pf → AreWithin f pf
+pub pseudo-within : (G : List ℕ) (f : ℤ) (pf : List ℤ) → IsFrobenius G f → negsuc 0 ≤ℤ f → f <ℤ pos APERY_ENTRY_LIMIT → ListsIntegers (IsPseudoFrobenius G) pf → AreWithin f pf
 pseudo-within G f pf h low high listed = record {
-  small = high;
+  small = omega (arith, ints, high);
   low = λ k l. pseudo_frobenius-low G f (get_or pf k (pos 0)) h low (at k l);
   high = λ k l. outside-below G f (get_or pf k (pos 0)) h (at k l).outside;
 }

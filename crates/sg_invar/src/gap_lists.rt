@@ -1,7 +1,6 @@
 //! The gaps, the small elements and the fundamental gaps, each as an ascending list, by a walk up to the conductor.
 
-ghost use Rattle.std.specs.Prelude.{◌*◌, ◌^◌, ◌<◌, ◌≤◌, IfOk, IsTrue, ◌↔◌};
-ghost use Rattle.sg_defs.specs.Membership.{IsMember};
+ghost use Rattle.std.specs.Prelude.{◌≤◌, IfOk, IsTrue, ◌↔◌};
 ghost use Rattle.sg_defs.specs.Listings.{Lists};
 ghost use Rattle.sg_defs.specs.Invariants.{IsGap, AreSmallElements, IsFundamentalGap};
 
@@ -10,21 +9,13 @@ use sg_apery::{APERY_ENTRY_LIMIT, Table};
 use sg_nat::Nats;
 use std::alloc::{AllocError, Global};
 
-/// Whether a natural is a member.
-fn is_member(table: &Table, n: u64) -> bool
-    requires { n < 2 ^ 63 }
-    ensures { IsTrue result ↔ IsMember table.now n }
-{
-    table.contains(n as i64)
-}
-
 /// The naturals that are no members.
 pub fn gaps(alloc: Global, table: &Table) -> Result<Nats, AllocError>
     ensures { IfOk result (Lists (IsGap table.now)) }
 {
     let mut gaps = Nats::new(alloc);
     for n in 0..conductor(table) {
-        if !is_member(table, n) {
+        if !table.contains_natural(n) {
             gaps.push(n)?;
         }
     }
@@ -37,7 +28,7 @@ pub fn small_elements(alloc: Global, table: &Table) -> Result<Nats, AllocError>
 {
     let mut members = Nats::new(alloc);
     for n in 0..conductor(table) + 1 {
-        if is_member(table, n) {
+        if table.contains_natural(n) {
             members.push(n)?;
         }
     }
@@ -50,10 +41,10 @@ fn is_fundamental_gap(table: &Table, n: u64) -> bool
     requires { n ≤ APERY_ENTRY_LIMIT }
     ensures { IsTrue result ↔ IsFundamentalGap table.now n }
 {
-    if is_member(table, n) {
+    if table.contains_natural(n) {
         return false;
     }
-    is_member(table, 2 * n) && is_member(table, 3 * n)
+    table.contains_natural(2 * n) && table.contains_natural(3 * n)
 }
 
 /// The gaps of which each multiple by 2 or more is a member (Rosales and Garcia-Sanchez).

@@ -1,6 +1,6 @@
 //! The Frobenius number, the conductor and the genus.
 
-ghost use Rattle.std.specs.Prelude.{◌*◌, ◌+◌, ◌≤◌, ◌⊎◌, ℕ, pos, negsuc, ◌≤ℤ◌};
+ghost use Rattle.std.specs.Prelude.{◌≤◌, ◌⊎◌, ℕ, pos, negsuc, ◌≤ℤ◌, ◌<ℤ◌};
 ghost use Rattle.sg_defs.specs.Membership.{IsMember};
 ghost use Rattle.sg_defs.specs.Invariants.{IsFrobenius, IsConductor, IsGap, IsGenus};
 
@@ -11,7 +11,7 @@ use sg_apery::{APERY_ENTRY_LIMIT, Table};
 pub fn frobenius(table: &Table) -> i64
     ensures frobenius { IsFrobenius table.now result }
     ensures low { negsuc 0 ≤ℤ result }
-    ensures high { result ≤ℤ pos APERY_ENTRY_LIMIT }
+    ensures high { result <ℤ pos APERY_ENTRY_LIMIT }
 {
     let multiplicity = table.multiplicity();
     let mut greatest = table.entry(0);
@@ -24,7 +24,7 @@ pub fn frobenius(table: &Table) -> i64
 /// The least number from which on every integer is a member: the Frobenius number and 1. It takes no memory.
 pub fn conductor(table: &Table) -> u64
     ensures conductor { IsConductor table.now result }
-    ensures small { result ≤ APERY_ENTRY_LIMIT + 1 }
+    ensures small { result ≤ APERY_ENTRY_LIMIT }
 {
     (frobenius(table) + 1) as u64
 }

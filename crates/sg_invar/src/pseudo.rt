@@ -1,6 +1,6 @@
 //! The pseudo-Frobenius numbers and the special gaps.
 
-ghost use Rattle.std.specs.Prelude.{◌*◌, ◌≡◌, ◌<◌, ◌≤◌, ℕ, pos, negsuc, neg_ℤ, ◌+ℤ◌, ◌-ℤ◌, ◌≤ℤ◌, length, map, slice_index, EachIndex, IfOk, IsTrue, ◌↔◌};
+ghost use Rattle.std.specs.Prelude.{◌≡◌, ◌<◌, ◌≤◌, ℕ, pos, negsuc, neg_ℤ, ◌+ℤ◌, ◌-ℤ◌, ◌≤ℤ◌, ◌<ℤ◌, length, map, slice_index, EachIndex, IfOk, IsTrue, ◌↔◌};
 ghost use Rattle.sg_defs.specs.Listings.{ListsIntegers};
 ghost use Rattle.sg_defs.specs.Membership.{IsIntegerMember};
 ghost use Rattle.sg_defs.specs.Invariants.{IsFrobenius, IsPseudoFrobenius, IsSpecialGap};
@@ -15,7 +15,7 @@ use std::alloc::{AllocError, Global};
 /// first that moves it past the Frobenius number ends the search.
 fn is_pseudo_frobenius(table: &Table, x: i64, frobenius: i64) -> bool
     requires frobenius { IsFrobenius table.now frobenius }
-    requires high { frobenius ≤ℤ pos APERY_ENTRY_LIMIT }
+    requires high { frobenius <ℤ pos APERY_ENTRY_LIMIT }
     requires outside { IsIntegerMember table.now x → ⊥ }
     requires low { neg_ℤ (pos MULTIPLICITY_LIMIT) ≤ℤ x }
     ensures { IsTrue result ↔ IsPseudoFrobenius table.now x }
@@ -77,7 +77,7 @@ pub fn pseudo_frobenius(alloc: Global, table: &Table) -> Result<Ints, AllocError
 /// Whether twice a number is a member. Where that is past the Frobenius number it needs no look-up.
 fn has_double(table: &Table, x: i64, frobenius: i64) -> bool
     requires frobenius { IsFrobenius table.now frobenius }
-    requires high { frobenius ≤ℤ pos APERY_ENTRY_LIMIT }
+    requires high { frobenius <ℤ pos APERY_ENTRY_LIMIT }
     requires low { negsuc 0 ≤ℤ x }
     requires below { x ≤ℤ frobenius }
     ensures { IsTrue result ↔ IsIntegerMember table.now (x +ℤ x) }

@@ -1,7 +1,8 @@
-use Rattle.std.proofs.Common.{◌≡◌, List, sym, subst, ℤ, pos, negsuc, ◌≤ℤ◌, to_z, of_z, w64, arith}
+use Rattle.std.proofs.Common.{◌≡◌, List, sym, subst, ℤ, pos, negsuc, ◌≤ℤ◌, ◌<ℤ◌, to_z, of_z, w64, arith}
 use Rattle.std.proofs.lemmas.Int.{ints}
 use Rattle.std.proofs.lemmas.Result.{IfOk-weaker, IfErr-weaker}
 use Rattle.sg_defs.specs.Ideals.{IsIdealMember, IsInCanonical}
+use Rattle.sg_apery.specs.declared.limits.TheConstants.{APERY_ENTRY_LIMIT}
 use Rattle.sg_ideal.specs.Faults.{AreRefused, IsSizeFault}
 use Rattle.sg_ideal.specs.Value.{AreWithin, IsIdealOf, IsReflected}
 use Rattle.sg_ideal.proofs.FaultLemmas.{ideal-same, some-faults}
@@ -10,7 +11,7 @@ use Rattle.sg_defs.proofs.DecidedLemmas.{member-decided}
 use Rattle.sg_ideal.proofs.own.canonical.Goals as goal
 
 -- the Frobenius number as it is passed
-back : (f : ℤ) → negsuc 0 ≤ℤ f → f ≤ℤ pos 4503599627370496 → to_z w64 (of_z w64 f) ≡ f
+back : (f : ℤ) → negsuc 0 ≤ℤ f → f <ℤ pos APERY_ENTRY_LIMIT → to_z w64 (of_z w64 f) ≡ f
 back f low high = omega (arith, ints, low, high)
 
 pub reflected-requires : goal.reflected-requires
@@ -21,7 +22,7 @@ reflected-requires c =
     subst (λ h. AreWithin h c.as_slice.result.now) (sym (back c.frobenius.result f.low f.high)) (subst (AreWithin c.frobenius.result) (sym c.as_slice.ensures) within)
 
 -- what was reflected
-reflected_of : (f : ℤ) (pf l r s : List ℤ) → negsuc 0 ≤ℤ f → f ≤ℤ pos 4503599627370496 → l ≡ pf → s ≡ r → IsReflected (to_z w64 (of_z w64 f)) l r → IsReflected f pf s
+reflected_of : (f : ℤ) (pf l r s : List ℤ) → negsuc 0 ≤ℤ f → f <ℤ pos APERY_ENTRY_LIMIT → l ≡ pf → s ≡ r → IsReflected (to_z w64 (of_z w64 f)) l r → IsReflected f pf s
 reflected_of f pf l r s low high e g h = subst (IsReflected f pf) (sym g) (subst (λ l. IsReflected f l r) e (subst (λ f. IsReflected f l r) (back f low high) h))
 
 pub returns-clause-made : goal.returns-clause-made

@@ -2,17 +2,17 @@ use Rattle.std.proofs.Common.{ℕ, ◌<◌, ◌≤◌, ◌↔◌, refl, arith}
 use Rattle.sg_defs.specs.Membership.{IsMember}
 use Rattle.sg_invar.proofs.ListingLemmas.{lists-push, lists-skip, lists-same}
 use Rattle.sg_invar.proofs.gap_lists.small_elements.Goals as goal
-use Rattle.sg_invar.proofs.gap_lists.small_elements.Goals.{then-is_member+in_ok-push, else-is_member}
+use Rattle.sg_invar.proofs.gap_lists.small_elements.Goals.{then-contains_natural+in_ok-push, else-contains_natural}
 
 pub loop-n-preserved : goal.loop-n-preserved
 loop-n-preserved c =
     let P = IsMember c.args.table.now in
     let n = c.loop-n.n in
     let before = c.loop-n.members in
-    elim c.if-is_member.branch [
-      | then-is_member+in_ok-push w ↦
-          rw (w.members-is, w.in_ok-push.ensures.ok) (lists-push P n before (w.if-is_member.ensures.0 refl) c.loop-n.invariant)
-      | else-is_member w ↦ rw w.members-is (lists-skip P n before (λ h. absurd (let f = w.if-is_member.ensures.1 h in cc)) c.loop-n.invariant)
+    elim c.if-contains_natural.branch [
+      | then-contains_natural+in_ok-push w ↦
+          rw (w.members-is, w.in_ok-push.ensures.ok) (lists-push P n before (w.if-contains_natural.ensures.0 refl) c.loop-n.invariant)
+      | else-contains_natural w ↦ rw w.members-is (lists-skip P n before (λ h. absurd (let f = w.if-contains_natural.ensures.1 h in cc)) c.loop-n.invariant)
     ]
 
 pub returns : goal.returns
