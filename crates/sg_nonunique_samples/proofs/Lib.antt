@@ -5,3 +5,7 @@ pub mod ClassSamples
 pub mod PresentationSamples
 pub mod CatenarySamples
 pub mod OmegaSamples
+pub mod EquationSamples
+pub mod GrownPairs
+pub mod GrownSamples
+pub mod AffineSamples

@@ -8,6 +8,7 @@
 //! No crate needs to stand on this one, and it knows no algorithm but the listings of `sg_finite`.
 #![tactic(auto)]
 
+pub mod affine;
 pub mod catenary;
 pub mod classes;
 pub mod deltas;
