@@ -1,0 +1,5 @@
+pub mod Held
+pub mod Comments
+pub mod Window
+pub mod Finds
+pub mod Cutting
