@@ -11,14 +11,8 @@ use Rattle.sg_rows.specs.declared.fault.CallFault.TheVariants.{Script, Memory}
 use Rattle.sg_rows.specs.declared.fault.Fault.{Fault}
 use Rattle.sg_rows.specs.declared.fault.Fault.TheVariants.{UnknownName}
 use Rattle.std.proofs.lemmas.Result.{err_from_is_err_and}
-use Rattle.std.proofs.Math.Path.{fun_ext}
 use Rattle.sg_store.specs.Interned.{Keeps}
-use Rattle.sg_tree.specs.Tree.{Tree, Trees, tree}
-use Rattle.sg_eval.specs.Expressions.{looked_up, known, eval, eval_places, ask}
-use Rattle.sg_eval.specs.Given.{plain_if}
-use Rattle.sg_eval.specs.Linked.{placed, start_of, items_from, next_from}
-use Rattle.sg_eval.specs.Queries.{indexes}
-use Rattle.sg_eval.proofs.Deciding.{assoc}
+use Rattle.sg_eval.specs.Expressions.{looked_up, known}
 use Rattle.sg_eval.specs.Outcomes.{Gives, Evaluates, Finds, plain_of, known_of}
 use Rattle.sg_eval.specs.Process.{Process, gives, ◌>>=◌, Runs}
 use Rattle.sg_eval.specs.State.{State, vars_of, values_of, AreKnown, AreKnownIn}
@@ -117,24 +111,3 @@ entry_only s s1 x v r params vars kept g h k = record {
       gives_only (plain (named final)) r (lookup (bytes_eq x) s1.parameters) x (plain (named final) v) (g (named final)) s1.variables
       (subst (λ ps. Runs (looked_up (lookup (bytes_eq x) ps) x) s1.variables (Ok (plain (named final) v)) s1.variables []) (sym params) found) (k.gives final later);
 }
-
-from_step : (ps : Vars) (x : List ℕ) (o : Option Plain) (t : Tree) (ts : Trees) → next_from ps x o t >>= (λ e. eval_places ps e ts) ≡ items_from ps x o (tree t ts)
-from_step ps x o t ts =
-    assoc (start_of ps x o) (λ d. placed ps d t) (λ e. eval_places ps e ts)
-    ∙ ap (λ k. start_of ps x o >>= k) (fun_ext (λ d. assoc (eval ps t) (λ i. ask (indexes d i)) (λ e. eval_places ps e ts)))
-
--- one place more
-module _ (ps : Vars) (s s1 : State) (x : List ℕ) (t : Tree) (ts : Trees) (o : Option Value) (same : s.parameters ≡ ps) where
-  pub from_then : (w : Value) (r : Result Value CallFault) (s2 : State) → Evaluates plain AllKnown (Ok w) s s1 (λ names. next_from s.parameters x (plain_if names o) t)
-      → Evaluates plain AllKnown r s1 s2 (λ names. items_from ps x (plain_if names (Some w)) ts) → Evaluates plain AllKnown r s s2 (λ names. items_from ps x (plain_if names o) (tree t ts))
-  from_then w r s2 h g =
-      evaluates_as plain AllKnown r s s2 (λ names. next_from ps x (plain_if names o) t >>= (λ e. eval_places ps e ts)) (λ names. items_from ps x (plain_if names o) (tree t ts)) (λ names. from_step ps x (plain_if names o) t ts)
-      (evaluates_then plain AllKnown plain AllKnown w r s s1 s2 (λ names. next_from ps x (plain_if names o) t) (λ names e. eval_places ps e ts)
-      (subst (λ qs. Evaluates plain AllKnown (Ok w) s s1 (λ names. next_from qs x (plain_if names o) t)) same h) g)
-
-  pub from_exit : (r : Result Value CallFault) (e : CallFault) → IsErrAnd r (λ y. y ≡ e) → Evaluates plain AllKnown (Err e) s s1 (λ names. next_from s.parameters x (plain_if names o) t)
-      → Evaluates plain AllKnown r s s1 (λ names. items_from ps x (plain_if names o) (tree t ts))
-  from_exit r e failed h =
-      evaluates_as plain AllKnown r s s1 (λ names. next_from ps x (plain_if names o) t >>= (λ d. eval_places ps d ts)) (λ names. items_from ps x (plain_if names o) (tree t ts)) (λ names. from_step ps x (plain_if names o) t ts)
-      (evaluates_exit plain AllKnown plain AllKnown r e s s1 (λ names. next_from ps x (plain_if names o) t) (λ names d. eval_places ps d ts) failed
-      (subst (λ qs. Evaluates plain AllKnown (Err e) s s1 (λ names. next_from qs x (plain_if names o) t)) same h))

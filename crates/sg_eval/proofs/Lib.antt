@@ -22,3 +22,5 @@ pub mod Borrowed
 pub mod AtOnce
 pub mod Computed
 pub mod Ranged
+pub mod Growing
+pub mod Grown

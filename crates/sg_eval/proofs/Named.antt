@@ -12,7 +12,8 @@ use Rattle.std.specs.Map.{keys_of}
 use Rattle.indexmap.specs.IndexMap.{insert_entry, set_value_at}
 use Rattle.indexmap.proofs.MapLemmas.{insert_entry-first}
 use Rattle.indexmap.proofs.RemoveLemmas.{own_first}
-use Rattle.sg_value.specs.Plain.{AllKnown, plain}
+use Rattle.sg_value.specs.Data.{data_map}
+use Rattle.sg_value.specs.Plain.{AllKnown, contents, plain, thing_at}
 use Rattle.sg_value.specs.declared.value.Value.{Value}
 use Rattle.sg_store.specs.Interned.{Keeps}
 use Rattle.sg_rows.specs.Order.{Plain}
@@ -55,6 +56,14 @@ module _ (names : Known) where
   values-set x (e ∷ es) u v found = (elim (bytes_eq x e.0.items) as (λ b. bytes_eq x e.0.items ≡ b → Some u ≡ lookup (is_named x) (e ∷ es) → values_of names (set_value (is_named x) (e ∷ es) v) ≡ with_value x (plain (named names) v) (values_of names (e ∷ es))) [
     | true ↦ λ t h. rw t (ap (λ n. (n, plain (named names) v) ∷ values_of names es) (sym ((bytes_eq-Decides x e.0.items).0 t)))
     | false ↦ λ t h. rw t (ap (λ vs. (e.0.items, plain (named names) e.1) ∷ vs) (values-set x es u v (rw t at h)))
+  ]) refl found
+
+  -- where a value has the contents that it had, the variables are as they were
+  pub values-kept : (x : List ℕ) (es : Entries) (u v : Value) → Some u ≡ lookup (is_named x) es → contents v ≡ contents u → values_of names (set_value (is_named x) es v) ≡ values_of names es
+  values-kept x [] u v found same = absurd (cc)
+  values-kept x (e ∷ es) u v found same = (elim (bytes_eq x e.0.items) as (λ b. bytes_eq x e.0.items ≡ b → Some u ≡ lookup (is_named x) (e ∷ es) → values_of names (set_value (is_named x) (e ∷ es) v) ≡ values_of names (e ∷ es)) [
+    | true ↦ λ t h. let is : u ≡ e.1 = cc (rw t at h) in rw t (ap (λ d. (e.0.items, data_map (thing_at (named names)) d) ∷ values_of names es) (same ∙ ap contents is))
+    | false ↦ λ t h. rw t (ap (λ vs. (e.0.items, plain (named names) e.1) ∷ vs) (values-kept x es u v (rw t at h) same))
   ]) refl found
 
   pub values-insert : (k : Vec ℕ Global) (es : Entries) (v : Value) → values_of names (insert_entry (λ a b. bytes_eq a.items b.items) es k v) ≡ with_value k.items (plain (named names) v) (values_of names es)

@@ -11,6 +11,7 @@ pub mod Entries
 pub mod Expressions
 pub mod Linked
 pub mod Given
+pub mod Growth
 pub mod Folded
 pub mod Statements
 pub mod Steps

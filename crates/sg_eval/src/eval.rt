@@ -9,7 +9,7 @@ ghost use Rattle.sg_eval.specs.Expressions.{eval as meaning, eval_all as meaning
 ghost use Rattle.sg_eval.specs.Folded.{fold_on};
 ghost use Rattle.sg_eval.specs.Given.{plain_if, known_if, plain_where, known_where, eval_argument};
 ghost use Rattle.sg_value.specs.Data.{none};
-ghost use Rattle.sg_eval.specs.Linked.{linked as linked_meaning, placed, items_from, next_from, compared_with};
+ghost use Rattle.sg_eval.specs.Linked.{linked as linked_meaning, placed, compared_with};
 ghost use Rattle.sg_eval.specs.Outcomes.{Evaluates, plain_in, known_in};
 ghost use Rattle.sg_eval.specs.Machine.{state_of};
 
@@ -60,9 +60,6 @@ fn eval_any(alloc: Global, machine: &mut Machine, e: &Expr) -> Result<Value, Cal
             span(alloc, &a, &b)
         }
         Expr::Item(list, places) => {
-            if let Expr::Var(name) = &**list {
-                return named_item(alloc, machine, places, name.as_slice());
-            }
             let value = eval(alloc, machine, list)?;
             item(alloc, machine, places, value)
         }
@@ -192,49 +189,7 @@ fn item(
     Ok(value)
 }
 
-/// The entry by one place after the other, of the list of a name, which is not copied.
-#[cycle(eval)]
-fn named_item(
-    alloc: Global,
-    machine: &mut Machine,
-    places: &[Expr],
-    name: &[u8],
-) -> Result<Value, CallFault>
-    ensures { Evaluates plain AllKnown result (state_of machine.old) (state_of machine.new) (λ names. items_from (state_of machine.old).parameters name.now (plain_if names None) (trees_of places.now)) }
-{
-    let mut value = None;
-    for place in places {
-        value = Some(next_item(alloc, machine, place, name, value)?);
-    }
-    match value {
-        Some(found) => Ok(found),
-        None => machine.named(alloc, name),
-    }
-}
-
-/// The entry at the place that an expression gives, of a list, or at first of that of a name.
-#[cycle(eval)]
-fn next_item(
-    alloc: Global,
-    machine: &mut Machine,
-    place: &Expr,
-    name: &[u8],
-    list: Option<Value>,
-) -> Result<Value, CallFault>
-    requires { known_if (named (state_of machine.old).names) list }
-    ensures { Evaluates plain AllKnown result (state_of machine.old) (state_of machine.new) (λ names. next_from (state_of machine.old).parameters name.now (plain_if names list) (tree_of place.now)) }
-{
-    match list {
-        Some(value) => item_at(alloc, machine, place, value),
-        None => {
-            machine.check_named(name)?;
-            let at = eval(alloc, machine, place)?;
-            machine.entry(alloc, name, &at)
-        }
-    }
-}
-
-/// What an operator gives of a value and that of an expression. The value of a name is not copied.
+/// What an operator gives of a value and that of an expression.
 #[inline(always)]
 #[cycle(eval)]
 fn compared(
@@ -247,9 +202,6 @@ fn compared(
     requires { AllKnown (named (state_of machine.old).names) left.now }
     ensures { Evaluates plain AllKnown result (state_of machine.old) (state_of machine.new) (λ names. compared_with (state_of machine.old).parameters op (plain names left.now) (tree_of right.now)) }
 {
-    if let Expr::Var(name) = right {
-        return machine.combine_named(alloc, op, left, name.as_slice());
-    }
     let b = eval(alloc, machine, right)?;
     machine.combine(alloc, op, left, &b)
 }

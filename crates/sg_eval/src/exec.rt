@@ -19,6 +19,7 @@ ghost use Rattle.sg_eval.specs.Machine.{state_of};
 use crate::answers::{decide, entries, range};
 use crate::entries::{Entries, Range};
 use crate::eval::{eval, given};
+use crate::growth::{grow, others_onto};
 use crate::integers::integer;
 use crate::machine::Machine;
 use crate::step_fault::StepFault;
@@ -158,6 +159,10 @@ fn assign(alloc: Global, machine: &mut Machine, name: &Bytes, e: &Expr) -> Resul
     if let Some(z) = integer(machine, e) {
         machine.set_integer(alloc, name, z)?;
         return Ok(());
+    }
+    let variable = name.as_slice();
+    if let Some(others) = others_onto(variable, e) {
+        return grow(alloc, machine, variable, others);
     }
     let value = eval(alloc, machine, e)?;
     machine.set(alloc, name, value)?;

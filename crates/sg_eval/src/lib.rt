@@ -15,6 +15,7 @@ mod eval;
 mod exec;
 mod folding;
 mod given;
+mod growth;
 mod integers;
 mod kinds;
 pub mod laws;

@@ -5,10 +5,9 @@ ghost use Rattle.sg_value.specs.Data.{semigroups};
 ghost use Rattle.sg_value.specs.Known.{named};
 ghost use Rattle.sg_eval.specs.KnownFacts.{are_known-prop};
 
-use crate::answers::index;
 use crate::kinds::integer_of;
 use crate::variable::{Variable, find};
-use crate::variables::{Variables, find_in, set, set_integer, value_of};
+use crate::variables::{Variables, find_in, grow, set, set_integer, value_of};
 use indexmap::IndexMap;
 use sg_calls::{CallFault, Operator, answer, combine};
 use sg_nat::Bytes;
@@ -38,7 +37,7 @@ impl Machine {
     ghost use Rattle.sg_eval.specs.Queries.{calls, combines};
     ghost use Rattle.sg_eval.specs.Expressions.{looked_up, ask};
     ghost use Rattle.sg_eval.specs.Outcomes.{Evaluates, Finds};
-    ghost use Rattle.sg_eval.specs.Linked.{entry_of, combined_with};
+    ghost use Rattle.sg_eval.specs.Growth.{Grows, joined_onto};
     ghost use Rattle.sg_eval.specs.Machine.{state_of};
     ghost use Rattle.sg_eval.specs.AtOnce.{GivesInteger};
     ghost use Rattle.sg_value.specs.Data.{int};
@@ -81,32 +80,6 @@ impl Machine {
     {
         find_in(&self.parameters, &self.variables, name)?;
         Ok(())
-    }
-
-    /// An entry of the list of this name.
-    pub fn entry(&self, alloc: Global, name: &[u8], place: &Value) -> Result<Value, CallFault>
-        ensures { Evaluates plain AllKnown result (state_of self.now) (state_of self.now) (λ names. entry_of (state_of self.now).parameters name.now (plain names place.now)) }
-    {
-        index(
-            alloc,
-            find_in(&self.parameters, &self.variables, name)?,
-            place,
-        )
-    }
-
-    /// What an operator gives of a value and that of this name.
-    pub fn combine_named(
-        &mut self,
-        alloc: Global,
-        op: Operator,
-        a: &Value,
-        name: &[u8],
-    ) -> Result<Value, CallFault>
-        requires { AllKnown (named (state_of self.old).names) a.now }
-        ensures { Evaluates plain AllKnown result (state_of self.old) (state_of self.new) (λ names. combined_with (state_of self.old).parameters op (plain names a.now) name.now) }
-    {
-        let b = find_in(&self.parameters, &self.variables, name)?;
-        combine(alloc, &mut self.store, op, a, b)
     }
 
     /// What a command answers.
@@ -190,6 +163,17 @@ impl Machine {
         ensures parameters { (state_of self.new).parameters ≡ (state_of self.old).parameters }
     {
         set_integer(alloc, &mut self.variables, name.as_slice(), z)
+    }
+
+    /// The entries of lists come behind those of a variable's list, in its place.
+    pub fn grow(&mut self, alloc: Global, name: &[u8], lists: &[Value]) -> Result<(), CallFault>
+        requires parameters { (state_of self.old).parameters ≡ [] }
+        requires known { AllKnownIn (named (state_of self.old).names) lists.now }
+        ensures names { (state_of self.new).names ≡ (state_of self.old).names }
+        ensures parameters { (state_of self.new).parameters ≡ (state_of self.old).parameters }
+        ensures grows { Grows result (state_of self.old) (state_of self.new).variables name.now (λ names. joined_onto name.now (plain_of_all names lists.now)) }
+    {
+        grow(alloc, &mut self.variables, name, lists)
     }
 
     /// The texts of the values, one after the other.

@@ -93,3 +93,14 @@ fn what_was_written_before_a_failed_write_stands(rt: HostRuntime) -> Result<(), 
     assert!(rt; is_done(rt.alloc(), texts, &[1], Err(StepFault::Write), b"12")?);
     Ok(())
 }
+
+#[test]
+fn a_list_that_would_grow_too_heavy_stays(rt: HostRuntime) -> Result<(), Fail> {
+    let texts = (
+        b"for l in [[1..4194302]] do for i in [1, 2] do l := Concatenation(l, [i]); od; od;".as_slice(),
+        b"Print(Length(l), l[4194303]);".as_slice(),
+    );
+    let ended = Err(StepFault::Script(Fault::TooLarge));
+    assert!(rt; is_done(rt.alloc(), texts, &[], ended, b"41943031")?);
+    Ok(())
+}

@@ -1,6 +1,6 @@
 //! The variables, each name with its value.
 
-ghost use Rattle.std.specs.Prelude.{◌≡◌, ℕ, List, Some, None, MatchOption, IfSome, OnOk, OnErr, slice_get, ⊤};
+ghost use Rattle.std.specs.Prelude.{◌≡◌, ℕ, List, Some, None, MatchOption, IfSome, OnOk, OnErr, [], slice_get, ⊤};
 ghost use Rattle.std.specs.Prelude.{Vec, ◌<◌};
 ghost use Rattle.indexmap.specs.IndexMap.{index_map_len};
 ghost use Rattle.std.specs.Global.{Global};
@@ -8,16 +8,18 @@ ghost use Rattle.sg_value.specs.declared.value.Value.{Value};
 ghost use Rattle.sg_value.specs.Known.{Known, named};
 ghost use Rattle.std.specs.Map.{lookup};
 ghost use Rattle.std.specs.Str.{bytes_eq};
-ghost use Rattle.sg_value.specs.Plain.{AllKnown, contents, plain};
+ghost use Rattle.sg_value.specs.Plain.{AllKnown, AllKnownIn, contents, plain, plain_of_all};
 ghost use Rattle.sg_value.specs.Data.{int};
 ghost use Rattle.sg_eval.specs.State.{State, vars_of, values_of, AreKnown, AreKnownIn};
 ghost use Rattle.sg_eval.specs.Expressions.{looked_up};
 ghost use Rattle.sg_eval.specs.Outcomes.{Evaluates, plain_of, known_of};
+ghost use Rattle.sg_eval.specs.Growth.{Grows, joined_onto};
 ghost use Rattle.sg_eval.specs.Vars.{with_value};
 
 use crate::variable::{Variable, find};
 use indexmap::IndexMap;
 use sg_calls::{CallFault, Fault};
+use sg_lists::concatenate_onto;
 use sg_value::Value;
 use std::alloc::{AllocError, Global};
 
@@ -110,6 +112,22 @@ pub fn set_integer(
         return Ok(());
     }
     set(alloc, variables, name, Value::Int(z))
+}
+
+/// Puts the entries of lists behind those of a variable's list, in its place. After a fault all is as it was.
+pub fn grow(
+    alloc: Global,
+    variables: &mut Variables,
+    name: &[u8],
+    lists: &[Value],
+) -> Result<(), CallFault>
+    ensures grows { (s : State) → s.parameters ≡ [] → s.variables ≡ values_of s.names variables.old.entries → AreKnownIn s.names variables.old.entries → AllKnownIn (named s.names) lists.now → Grows result s (values_of s.names variables.new.entries) name.now (λ names. joined_onto name.now (plain_of_all names lists.now)) }
+    ensures known { (names : Known) → AreKnownIn names variables.old.entries → AllKnownIn (named names) lists.now → AreKnownIn names variables.new.entries }
+{
+    match variables.get_mut(name) {
+        Some(value) => concatenate_onto(alloc, value, lists),
+        None => Err(CallFault::Script(Fault::UnknownName)),
+    }
 }
 
 /// The value of a parameter, or else of a variable.

@@ -1,14 +1,17 @@
 -- Concatenations as replies.
-use Rattle.std.proofs.Common.{◌≡◌, ◌<◌, ◌≤◌, ◌-◌, List, Option, Some, None, IsSome, Ok, Err, Vec, refl, ap, sym, ◌∙◌, subst, arith}
+use Rattle.std.proofs.Common.{◌≡◌, ◌<◌, ◌≤◌, ◌-◌, List, [], ◌∷◌, length, Option, Some, None, IsSome, Result, Ok, Err, IsErrAnd, refl, ap, sym, ◌∙◌, subst, arith}
+use Rattle.std.proofs.lemmas.Result.{err_from_is_err_and}
 use Rattle.sg_value.specs.Known.{Known, named}
 use Rattle.std.specs.Global.{Global}
 use Rattle.std.specs.Option.{option_map}
-use Rattle.sg_value.specs.Data.{list, Items, items_map, weight_of_all, depth_of_all, EachThingOfAll}
-use Rattle.sg_value.specs.Plain.{AllKnownIn, IsKnown, contents_of_all, plain_of_all, thing_at, Places}
+use Rattle.sg_value.specs.Data.{list, none, item, Items, data_map, items_map, weight_of_all, depth_of_all, EachThing, EachThingOfAll}
+use Rattle.sg_value.specs.Plain.{AllKnownIn, IsKnown, contents, contents_of_all, plain_of_all, thing_at, Places}
 use Rattle.sg_value.specs.declared.value.Value.{Value}
 use Rattle.sg_value.specs.declared.value.Value.TheVariants as value
-use Rattle.sg_rows.specs.Order.{fits, IsReply}
-use Rattle.sg_rows.specs.Kinds.{given, answers}
+use Rattle.sg_rows.specs.Order.{Case, fits, IsReply}
+use Rattle.sg_rows.specs.Kinds.{given, answers, as_list}
+use Rattle.sg_rows.specs.Words.{join}
+use Rattle.sg_rows.specs.declared.fault.CallFault.{CallFault}
 use Rattle.sg_rows.specs.Replies.{Replies}
 use Rattle.sg_rows.specs.declared.fault.Fault.TheVariants.{WrongType, Depth, TooLarge}
 use Rattle.sg_rows.specs.declared.fault.CallFault.TheVariants.{Script}
@@ -16,7 +19,17 @@ use Rattle.sg_rows.proofs.Replying.{answers_pass}
 use Rattle.sg_rows.proofs.Measures.{depth_of_all-map, weight_of_all-map, replies_list, replies_deep, replies_heavy}
 use Rattle.sg_lists.specs.Words.{joined}
 use Rattle.sg_lists.specs.Lists.{concatenation_of}
-use Rattle.sg_lists.proofs.Joining.{joined-plain, depth-joined, known-joined}
+use Rattle.sg_lists.proofs.Joining.{parts_of, joined-plain, depth-joined, known-joined}
+
+-- a value with the same contents as the reply
+replies_same : (store : Known) (c : Case) (v w : Value) → contents v ≡ contents w → Replies (Ok w) store c → Replies (Ok v) store c
+replies_same store c v w same h = subst (λ d. IsReply c (Ok (data_map (thing_at (named store)) d)) × EachThing (IsKnown (named store)) d) (sym same) h
+
+-- a fault that is handed on
+pub of_fault : (store : Known) (c : Case) (r : Result Value CallFault) (e : CallFault) → IsErrAnd r (λ y. y ≡ e) → Replies (Err e) store c → Replies r store c
+of_fault store c r e failed h =
+    let q = err_from_is_err_and r failed in
+    subst (λ t. Replies t store c) (sym (q.1 ∙ ap Err q.2)) h
 
 pub some_of : {A : Type 0} (o : Option A) → IsSome o → (a : A) × (o ≡ Some a)
 some_of None h = absurd (cc)
@@ -67,3 +80,27 @@ module _ (store : Known) (vs : List Value) (ds : Items Places) (is : joined (con
       subst (λ o. Replies (Ok (value.List copies)) store (given o (λ es. fits (answers (λ d. d ≡ list es))))) (sym seen)
       (replies_list store (answers (λ d. d ≡ list all)) all copies (answers_pass (λ d. d ≡ list all)) refl (ap (items_map (thing_at (named store))) same) (omega (arith, e, shallow)) (omega (arith, w, light))
       (subst (EachThingOfAll (IsKnown (named store))) (sym same) (known-joined (IsKnown (named store)) (contents_of_all vs) ds is known)))
+
+  -- a value that holds the entries of all
+  pub within_as : (64 < depth_of_all (contents_of_all vs) → ⊥) → (4194304 ≤ weight_of_all ds → ⊥) → AllKnownIn (named store) vs → (v : Value) → contents v ≡ list ds
+      → Replies (Ok v) store (concatenation_of (plain_of_all (named store) vs))
+  within_as shallow light known v same = replies_same store (concatenation_of (plain_of_all (named store) vs)) v (value.List ds) same (within shallow light known ds refl)
+
+-- what a list holds behind which the entries of the others were put
+pub appended : (v : Value) (us : List Value) (ds : Items Places) → joined (contents_of_all (v ∷ us)) ≡ Some ds → (more : List Value) (w : Value) → ((es : Items Places) → joined (contents_of_all us) ≡ Some es → contents_of_all more ≡ es)
+    → ((xs : Items Places) → as_list (contents v) ≡ Some xs → contents w ≡ list (join xs (contents_of_all more))) → contents w ≡ list ds
+appended v us ds is more w copied added =
+    let p = parts_of (contents v) (contents_of_all us) ds is in
+    added p.first p.is_first ∙ (ap (λ es. list (join p.first es)) (copied p.others p.are_others) ∙ ap list p.whole)
+
+-- the reply over a copy of the first list is that over the lists
+pub of_copy : (r : Result Value CallFault) (store : Known) (v w : Value) (us vs : List Value) → contents v ≡ contents w → vs ≡ w ∷ us
+    → (AllKnownIn (named store) (v ∷ us) → Replies r store (concatenation_of (plain_of_all (named store) (v ∷ us)))) → AllKnownIn (named store) vs → Replies r store (concatenation_of (plain_of_all (named store) vs))
+of_copy r store v w us vs copy is h known =
+    let same : contents_of_all (v ∷ us) ≡ contents_of_all vs = ap (λ d. item d (contents_of_all us)) copy ∙ ap contents_of_all (sym is) in
+    subst (λ ds. Replies r store (concatenation_of (items_map (thing_at (named store)) ds))) same (h (subst (EachThingOfAll (IsKnown (named store))) (sym same) known))
+
+-- no list at all
+pub of_none : (store : Known) (vs : List Value) (copies : Items Places) → length vs ≡ 0 → copies ≡ none → AllKnownIn (named store) vs → Replies (Ok (value.List copies)) store (concatenation_of (plain_of_all (named store) vs))
+of_none store [] copies empty is known = within store [] none refl (λ h. absurd (omega (arith, h))) (λ h. absurd (omega (arith, h))) known copies is
+of_none store (v ∷ vs) copies empty is known = absurd (omega (arith, empty))

@@ -8,6 +8,7 @@ use Rattle.sg_value.specs.declared.value.Value.{Value}
 use Rattle.sg_rows.specs.Kinds.{as_list}
 use Rattle.sg_rows.specs.Words.{entry_count, join}
 use Rattle.sg_rows.proofs.Entries.{contents_of_all-drop}
+use Rattle.sg_value.proofs.Joins.{contents_of_all-append, weight-join, depth-join}
 use Rattle.sg_lists.specs.Words.{joined}
 
 pub join-none : {H : Kind → Type 0} (ds : Items H) → join ds none ≡ ds
@@ -17,11 +18,6 @@ join-none (item d ds) = ap (item d) (join-none ds)
 pub join-assoc : {H : Kind → Type 0} (ds es fs : Items H) → join (join ds es) fs ≡ join ds (join es fs)
 join-assoc none es fs = refl
 join-assoc (item d ds) es fs = ap (item d) (join-assoc ds es fs)
-
--- one value more
-pub contents_of_all-push : (vs : List Value) (v : Value) → contents_of_all (vs ++ v ∷ []) ≡ join (contents_of_all vs) (item (contents v) none)
-contents_of_all-push [] v = refl
-contents_of_all-push (w ∷ vs) v = ap (item (contents w)) (contents_of_all-push vs v)
 
 -- a first list
 pub joined-list : {H : Kind → Type 0} (d : Data H) (xs es : Items H) → as_list d ≡ Some xs → joined (item d es) ≡ option_map (join xs) (joined es)
@@ -82,14 +78,6 @@ joined-plain f (item (text bs) es) = refl
 joined-plain f (item fail es) = refl
 joined-plain f (item (semigroup h) es) = refl
 joined-plain f (item (ideal h) es) = refl
-
-depth-join : {H : Kind → Type 0} (ds es : Items H) → depth_of_all (join ds es) ≡ max (depth_of_all ds) (depth_of_all es)
-depth-join none es = omega arith
-depth-join (item d ds) es = omega (arith, depth-join ds es)
-
-weight-join : {H : Kind → Type 0} (ds es : Items H) → weight_of_all (join ds es) ≡ weight_of_all ds + weight_of_all es
-weight-join none es = omega arith
-weight-join (item d ds) es = omega (arith, weight-join ds es)
 
 depth-list : {H : Kind → Type 0} (d : Data H) (xs : Items H) → as_list d ≡ Some xs → depth_of d ≡ suc (depth_of_all xs)
 depth-list (list ys) xs is = let e : ys ≡ xs = cc in ap (λ zs. suc (depth_of_all zs)) e
@@ -154,7 +142,7 @@ known-joined P (item d es) ds is h =
 -- a copy more
 pub copied_more : (copies : List Value) (v copy : Value) (rest all : Items Places) → contents copy ≡ contents v → join (contents_of_all copies) (item (contents v) rest) ≡ all → join (contents_of_all (copies ++ copy ∷ [])) rest ≡ all
 copied_more copies v copy rest all same so_far =
-    ap (λ ds. join ds rest) (contents_of_all-push copies copy)
+    ap (λ ds. join ds rest) (contents_of_all-append copies (copy ∷ []))
     ∙ (join-assoc (contents_of_all copies) (item (contents copy) none) rest ∙ (ap (λ d. join (contents_of_all copies) (item d rest)) same ∙ so_far))
 
 abbrev pub Left : List Value → List Value → Items Places → Type 0

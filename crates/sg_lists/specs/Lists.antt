@@ -1,7 +1,9 @@
 -- The rows of the commands on lists and integers.
-use Rattle.std.specs.Prelude.{◌≡◌, ℕ, ℤ, pos, List, []}
+use Rattle.std.specs.Prelude.{◌≡◌, ℕ, ℤ, pos, List, [], Result, Ok, Err}
 use Rattle.sg_value.specs.Plain.{Things}
 use Rattle.sg_value.specs.Data.{int, list, Items}
+use Rattle.sg_value.specs.declared.value.Value.{Value}
+use Rattle.sg_rows.specs.declared.fault.CallFault.{CallFault}
 use Rattle.sg_rows.specs.Order.{Plain, Case, fits}
 use Rattle.sg_rows.specs.Kinds.{given, as_list, as_integers, answers, a_natural, an_entry}
 use Rattle.sg_rows.specs.Words.{entry_count}
@@ -33,3 +35,8 @@ lcm_of zs = a_number (IsLcmOfAll zs) zs
 -- the entries of all lists, one list after the other
 abbrev pub concatenation_of : Items Things → Case
 concatenation_of args = given (joined args) (λ ds. fits (answers (λ d. d ≡ list ds)))
+
+-- what stands in a value's place, where a call left its answer there
+abbrev pub left_in : Value → Result (Unit {0}) CallFault → Result Value CallFault
+left_in v (Ok u) = Ok v
+left_in v (Err e) = Err e

@@ -1,16 +1,12 @@
 -- Entries of lists of values.
 use Rattle.std.specs.Prelude.{◌≡◌, ◌⊎◌, ℕ, suc}
 use Rattle.sg_value.specs.Data.{Data, Items, none, item, Kind}
+pub use Rattle.sg_value.specs.Data.{join}
 
 -- how many entries there are
 abbrev pub entry_count : {H : Kind → Type 0} → Items H → ℕ
 entry_count none = 0
 entry_count (item d ds) = suc (entry_count ds)
-
--- the first entries, then the second
-abbrev pub join : {H : Kind → Type 0} → Items H → Items H → Items H
-join none es = es
-join (item d ds) es = item d (join ds es)
 
 -- d is an entry
 abbrev pub IsEntry : {H : Kind → Type 0} → Data H → Items H → Type 0

@@ -3,4 +3,4 @@ pub mod Fronts
 pub mod Pieces
 pub mod Entries
 pub mod OneStore
-pub mod Joined
+pub mod Joins

@@ -1,12 +1,12 @@
 //! The entries of a list, which all who hold it share. Contracts see them as plain data.
 
 ghost use Rattle.std.specs.Prelude.{◌≡◌, ◌-◌, ◌^◌, min, IfOk, OnOk, OnErr, length};
-ghost use Rattle.sg_value.specs.Data.{none, item, joined, weight_of_all, depth_of_all};
-ghost use Rattle.sg_value.specs.Plain.{contents, contents_of_all};
+ghost use Rattle.sg_value.specs.Data.{join, weight_of_all, depth_of_all};
+ghost use Rattle.sg_value.specs.Plain.{contents_of_all};
 ghost use Rattle.sg_value.specs.Size.{IsMeasured};
 
 use crate::copy::copy_of_all;
-use crate::size::{depth, greatest_depth, total_weight, weight};
+use crate::size::{greatest_depth, total_weight};
 use crate::value::Value;
 use std::alloc::{AllocError, Global};
 use std::marker::Model;
@@ -51,20 +51,6 @@ impl Model for Items {
 }
 
 impl Items {
-    /// No entries.
-    pub fn new(alloc: Global) -> Result<Items, AllocError>
-        ensures { IfOk result (λ items. items ≡ none) }
-    {
-        let node = Node {
-            entries: Vec::new(alloc),
-            weight: 0,
-            depth: 0,
-        };
-        Ok(Items {
-            node: Rc::new(alloc, node)?,
-        })
-    }
-
     /// The entries, to be read.
     pub fn as_slice(&self) -> &[Value]
         ensures { contents_of_all result.now ≡ self.now }
@@ -111,36 +97,21 @@ impl Items {
     }
 
     /// More entries, behind the others. Where somebody else holds the list, this one gets entries of its own first.
-    pub fn extend(&mut self, alloc: Global, entries: &[Value]) -> Result<(), AllocError>
-        ensures ok { OnOk result (self.new ≡ joined self.old (contents_of_all entries.now)) }
-        ensures err { OnErr result (self.new ≡ self.old) }
-    {
-        let mut more = copy_of_all(entries, alloc)?;
-        if let Some(node) = Rc::get_mut(&mut self.node) {
-            return add(node, &mut more);
-        }
-        let mut node = own(&self.node, alloc)?;
-        add(&mut node, &mut more)?;
-        self.node = Rc::new(alloc, node)?;
-        Ok(())
-    }
-
-    /// One more entry, behind the others. Where somebody else holds the list, this one gets entries of its own first.
-    pub fn push(&mut self, alloc: Global, v: Value) -> Result<(), AllocError>
-        ensures ok { OnOk result (self.new ≡ joined self.old (item (contents v) none)) }
+    pub fn append(&mut self, alloc: Global, more: Vec<Value>) -> Result<(), AllocError>
+        ensures ok { OnOk result (self.new ≡ join self.old (contents_of_all more.items)) }
         ensures err { OnErr result (self.new ≡ self.old) }
     {
         if let Some(node) = Rc::get_mut(&mut self.node) {
-            return put(node, v);
+            return add(node, more);
         }
         let mut node = own(&self.node, alloc)?;
-        put(&mut node, v)?;
+        add(&mut node, more)?;
         self.node = Rc::new(alloc, node)?;
         Ok(())
     }
 }
 
-/// The same entries, held by nobody else, with room for one more.
+/// The same entries, held by nobody else.
 fn own(node: &Node, alloc: Global) -> Result<Node, AllocError>
     requires measured { IsMeasured node.now }
     ensures measured { IfOk result IsMeasured }
@@ -153,30 +124,19 @@ fn own(node: &Node, alloc: Global) -> Result<Node, AllocError>
     })
 }
 
-/// One more entry, behind the others.
-fn put(node: &mut Node, v: Value) -> Result<(), AllocError>
-    requires measured { IsMeasured node.old }
-    ensures measured { IsMeasured node.new }
-    ensures ok { OnOk result (contents_of_all node.new.entries.items ≡ joined (contents_of_all node.old.entries.items) (item (contents v) none)) }
-    ensures err { OnErr result (contents_of_all node.new.entries.items ≡ contents_of_all node.old.entries.items) }
-{
-    let (more, deep) = (weight(&v), depth(&v));
-    node.entries.push(v)?;
-    node.weight = node.weight.saturating_add(more);
-    node.depth = node.depth.max(deep);
-    Ok(())
-}
-
 /// More entries, behind the others.
-fn add(node: &mut Node, more: &mut Vec<Value>) -> Result<(), AllocError>
+fn add(node: &mut Node, more: Vec<Value>) -> Result<(), AllocError>
     requires measured { IsMeasured node.old }
     ensures measured { IsMeasured node.new }
-    ensures ok { OnOk result (contents_of_all node.new.entries.items ≡ joined (contents_of_all node.old.entries.items) (contents_of_all more.old.items)) }
+    ensures ok { OnOk result (contents_of_all node.new.entries.items ≡ join (contents_of_all node.old.entries.items) (contents_of_all more.items)) }
     ensures err { OnErr result (contents_of_all node.new.entries.items ≡ contents_of_all node.old.entries.items) }
 {
-    let added = more.as_slice();
-    let (heavier, deep) = (total_weight(added), greatest_depth(added));
-    node.entries.append(more)?;
+    let mut added = more;
+    let (heavier, deep) = (
+        total_weight(added.as_slice()),
+        greatest_depth(added.as_slice()),
+    );
+    node.entries.append(&mut added)?;
     node.weight = node.weight.saturating_add(heavier);
     node.depth = node.depth.max(deep);
     Ok(())

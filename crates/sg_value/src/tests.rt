@@ -145,8 +145,8 @@ fn what_was_shared_stays(rt: HostRuntime) -> io::Result<()> {
     let alloc = rt.alloc();
     let mut one = Items::from_vec(alloc, vec![in alloc; Value::Int(1)]?)?;
     let other = one.try_clone()?;
-    one.push(alloc, Value::Int(2))?;
-    one.push(alloc, Value::Int(3))?;
+    one.append(alloc, vec![in alloc; Value::Int(2)]?)?;
+    one.append(alloc, vec![in alloc; Value::Int(3)]?)?;
     assert_eq!(rt;
         printed(alloc, &Value::List(one))?.as_slice(),
         b"[ 1, 2, 3 ]".as_slice()

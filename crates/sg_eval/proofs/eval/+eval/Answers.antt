@@ -10,7 +10,7 @@ use Rattle.sg_tree.specs.Tree.{call, variable, display, span, item, minus, negat
 use Rattle.sg_tree.specs.TreeView.{tree_of, trees_of, links_of}
 use Rattle.sg_tree.proofs.ExpressionLevels.{view-Var, view-Display, view-Span, view-Item, view-Minus, view-Not, view-Chain, view-Compare}
 use Rattle.sg_eval.specs.Expressions.{folded, eval, eval_all, eval_places, eval_links, negated, turned, decided, ask, relation, eval_given, eval_folding, plain_alone}
-use Rattle.sg_eval.specs.Linked.{placed, linked, ends_chain, compared_with, next_from, items_from, start_of}
+use Rattle.sg_eval.specs.Linked.{placed, linked, ends_chain, compared_with}
 use Rattle.sg_eval.specs.Machine.{state_of}
 use Rattle.sg_eval.specs.Outcomes.{Evaluates, plain_in, known_in, plain_items, known_items}
 use Rattle.sg_eval.specs.Process.{gives, refuses, ◌>>=◌}
@@ -31,9 +31,6 @@ use Rattle.sg_rows.specs.Order.{Plain}
 use Rattle.sg_eval.specs.Folded.{goes_on, fold_on, fold_rest, listed_if}
 use Rattle.sg_tree.specs.declared.expr.Expr.{the_lemmas}
 use Rattle.sg_tree.specs.declared.expr.Arg.{the_lemmas as argument_lemmas}
-use Rattle.sg_tree.specs.Tree.{no_trees}
-use Rattle.sg_eval.proofs.Steps.{right_unit}
-use Rattle.sg_eval.proofs.Borrowed.{entry_only, from_then, from_exit}
 use Rattle.sg_eval.proofs.FoldSteps.{gathered_known, gathered_plain, fold_is}
 use Rattle.sg_eval.proofs.FoldLoop.{wrong_count, fold_as, second_is, listed_if_bind, plain_of_all-drop, known_at, entry_exit, value_wrong, entry_then, entry_gathered}
 use Rattle.sg_eval.proofs.eval.+eval.Goals as goal
@@ -64,12 +61,6 @@ item_at-returns t c =
     evaluates_then plain AllKnown plain AllKnown c.in_ok-at.at c.index.result s s1 s1 (λ names. eval ps (tree_of c.args.place.now)) (λ names i. ask (indexes (plain names c.args.list) i)) e
     (c.index.ensures s1 (known_later s.names s1.names c.args.list e.keeps c.requires))
 
-pub compared-returns-in-Var : goal.compared-returns-in-Var
-compared-returns-in-Var t c =
-    let s = state_of c.args.machine.now in
-    let seen = ap tree_of c.in-Var.is ∙ (view-Var c.in-Var.name ∙ ap variable (sym c.as_slice.ensures)) in
-    subst (λ x. Evaluates plain AllKnown c.combine_named.result s (state_of c.combine_named.new.self) (λ names. compared_with s.parameters c.args.op (plain names c.args.left.now) x)) (sym seen) c.combine_named.ensures
-
 pub compared-returns-in_err-b : goal.compared-returns-in_err-b
 compared-returns-in_err-b t c =
     let s = state_of c.args.machine.now in
@@ -83,109 +74,6 @@ compared-returns t c =
     let s = state_of c.args.machine.now in
     let s1 = state_of c.eval.new.machine in
     evaluates_then plain AllKnown plain AllKnown c.in_ok-b.b c.combine.result s s1 (state_of c.combine.new.self) (λ names. eval s.parameters (tree_of c.args.right.now)) (λ names b. ask (combines c.args.op (plain names c.args.left.now) b)) c.in_ok-b.ensures c.combine.ensures
-
-pub next_item-returns-in-Some : goal.next_item-returns-in-Some
-next_item-returns-in-Some t c =
-    let s = state_of c.args.machine.now in
-    let s1 = state_of c.item_at.new.machine in
-    subst (λ o. Evaluates plain AllKnown c.item_at.result s s1 (λ names. next_from s.parameters c.args.name.now (plain_if names o) (tree_of c.args.place.now))) (sym c.in-Some.is) c.item_at.ensures
-
-pub next_item-returns-in_err-check_named-in-None : goal.next_item-returns-in_err-check_named-in-None
-next_item-returns-in_err-check_named-in-None t c =
-    let s = state_of c.args.machine.now in
-    let ps = s.parameters in
-    let x = c.args.name.now in
-    let t1 = tree_of c.args.place.now in
-    let r = c.from_residual.result in
-    subst (λ o. Evaluates plain AllKnown r s s (λ names. next_from ps x (plain_if names o) t1)) (sym c.in-None.is)
-    (evaluates_exit plain AllKnown plain AllKnown r _ s s (λ names. start_of ps x None) (λ names d. placed ps d t1) c.from_residual.ensures.1 c.in_err-check_named-in-None.ensures)
-
-pub next_item-returns-in_err-at-in-None : goal.next_item-returns-in_err-at-in-None
-next_item-returns-in_err-at-in-None t c =
-    let s = state_of c.args.machine.now in
-    let s1 = state_of c.eval.new.machine in
-    let ps = s.parameters in
-    let x = c.args.name.now in
-    let t1 = tree_of c.args.place.now in
-    let r = c.from_residual-in_err-at-in-None.result in
-    let found = c.in_ok-check_named-in-None.ensures in
-    subst (λ o. Evaluates plain AllKnown r s s1 (λ names. next_from ps x (plain_if names o) t1)) (sym c.in-None.is)
-    (evaluates_then plain AllKnown plain AllKnown found.0 r s s s1 (λ names. start_of ps x None) (λ names d. placed ps d t1) found.1
-    (evaluates_exit plain AllKnown plain AllKnown r _ s s1 (λ names. eval ps t1) (λ names i. ask (indexes (plain names found.0) i)) c.from_residual-in_err-at-in-None.ensures.1 c.in_err-at-in-None.ensures))
-
-pub next_item-returns-in_ok-at-in-None : goal.next_item-returns-in_ok-at-in-None
-next_item-returns-in_ok-at-in-None t c =
-    let s = state_of c.args.machine.now in
-    let s1 = state_of c.eval.new.machine in
-    let ps = s.parameters in
-    let x = c.args.name.now in
-    let t1 = tree_of c.args.place.now in
-    let r = c.entry.result in
-    let i = c.in_ok-at-in-None.at in
-    let h = c.in_ok-at-in-None.ensures in
-    let found = c.in_ok-check_named-in-None.ensures in
-    subst (λ o. Evaluates plain AllKnown r s s1 (λ names. next_from ps x (plain_if names o) t1)) (sym c.in-None.is)
-    (evaluates_then plain AllKnown plain AllKnown found.0 r s s s1 (λ names. start_of ps x None) (λ names d. placed ps d t1) found.1
-    (evaluates_then plain AllKnown plain AllKnown i r s s1 s1 (λ names. eval ps t1) (λ names j. ask (indexes (plain names found.0) j)) h
-    (entry_only s s1 x found.0 r h.parameters h.variables h.keeps (λ names d. ask (indexes d (plain names i))) found.1 c.entry.ensures)))
-
-pub named_item-loop-place-init : goal.named_item-loop-place-init
-named_item-loop-place-init t c =
-    record { known = tt; same = refl; reached = λ r s h. h }
-
-pub named_item-loop-place-preserved : goal.named_item-loop-place-preserved
-named_item-loop-place-preserved t c =
-    let ps = (state_of c.args.machine.now).parameters in
-    let s = state_of c.loop-place.machine in
-    let s1 = state_of c.next_item.new.machine in
-    let inv = c.loop-place.invariant in
-    let i = c.loop-place.place-index in
-    let es = c.args.places.now in
-    let e = c.place-item.result in
-    let h = c.in_ok-next_item.ensures in
-    record {
-      known = h.is_known;
-      same = h.parameters ∙ inv.same;
-      reached = λ r s2 g. inv.reached r s2 (subst (λ ts. Evaluates plain AllKnown r s s2 (λ names. items_from ps c.args.name.now (plain_if names c.loop-place.value) ts)) (sym (trees_of-drop es i e c.loop-place-test.true c.place-item.is))
-          (from_then ps s s1 c.args.name.now (tree_of e) (trees_of (drop (i + 1) es)) c.loop-place.value inv.same c.in_ok-next_item.field-0 r s2 h g));
-    }
-
-pub named_item-returns-in_err-next_item : goal.named_item-returns-in_err-next_item
-named_item-returns-in_err-next_item t c =
-    let ps = (state_of c.args.machine.now).parameters in
-    let s = state_of c.loop-place.machine in
-    let s1 = state_of c.next_item.new.machine in
-    let inv = c.loop-place.invariant in
-    let i = c.loop-place.place-index in
-    let es = c.args.places.now in
-    let e = c.place-item.result in
-    let r = c.from_residual.result in
-    inv.reached r s1 (subst (λ ts. Evaluates plain AllKnown r s s1 (λ names. items_from ps c.args.name.now (plain_if names c.loop-place.value) ts)) (sym (trees_of-drop es i e c.loop-place-test.true c.place-item.is))
-    (from_exit ps s s1 c.args.name.now (tree_of e) (trees_of (drop (i + 1) es)) c.loop-place.value inv.same r _ c.from_residual.ensures.1 c.in_err-next_item.ensures))
-
-pub named_item-returns-in-Some : goal.named_item-returns-in-Some
-named_item-returns-in-Some t c =
-    let ps = (state_of c.args.machine.now).parameters in
-    let s = state_of c.loop-place.machine in
-    let inv = c.loop-place.invariant in
-    let x = c.args.name.now in
-    let v = c.in-Some.found in
-    let is_known = subst (known_if (named s.names)) c.in-Some.is inv.known in
-    inv.reached (Ok v) s (subst (λ es. Evaluates plain AllKnown (Ok v) s s (λ names. items_from ps x (plain_if names c.loop-place.value) (trees_of es))) (sym (drop_all c.loop-place.place-index c.args.places.now c.loop-place-test.false))
-    (subst (λ o. Evaluates plain AllKnown (Ok v) s s (λ names. items_from ps x (plain_if names o) no_trees)) (sym c.in-Some.is)
-    (evaluates_gives plain AllKnown v s (λ names. plain names v) is_known (λ final later. refl))))
-
-pub named_item-returns-in-None : goal.named_item-returns-in-None
-named_item-returns-in-None t c =
-    let ps = (state_of c.args.machine.now).parameters in
-    let s = state_of c.loop-place.machine in
-    let inv = c.loop-place.invariant in
-    let x = c.args.name.now in
-    let r = c.named.result in
-    inv.reached r s (subst (λ es. Evaluates plain AllKnown r s s (λ names. items_from ps x (plain_if names c.loop-place.value) (trees_of es))) (sym (drop_all c.loop-place.place-index c.args.places.now c.loop-place-test.false))
-    (subst (λ o. Evaluates plain AllKnown r s s (λ names. items_from ps x (plain_if names o) no_trees)) (sym c.in-None.is)
-    (evaluates_as plain AllKnown r s s (λ names. start_of ps x None) (λ names. items_from ps x None no_trees) (λ names. sym (right_unit (start_of ps x None)))
-    (subst (λ qs. Evaluates plain AllKnown r s s (λ names. start_of qs x None)) inv.same c.named.ensures))))
 
 pub eval_any-returns-in-Var : goal.eval_any-returns-in-Var
 eval_any-returns-in-Var t c =
@@ -868,10 +756,10 @@ pub eval_any-returns-in_err-value-in-Item : goal.eval_any-returns-in_err-value-i
 eval_any-returns-in_err-value-in-Item t c =
     let s = state_of c.args.machine.now in
     let ps = s.parameters in
-    let list = tree_of c.deref-in-Item-2.result.now in
+    let list = tree_of c.deref-in-Item.result.now in
     let places = trees_of c.in-Item.places.items in
     let r = c.from_residual-in_err-value-in-Item.result in
-    let seen = ap tree_of c.in-Item.is ∙ (view-Item c.in-Item.list c.in-Item.places ∙ ap (λ x. item (tree_of x) places) (sym c.deref-in-Item-2.ensures)) in
+    let seen = ap tree_of c.in-Item.is ∙ (view-Item c.in-Item.list c.in-Item.places ∙ ap (λ x. item (tree_of x) places) (sym c.deref-in-Item.ensures)) in
     subst (λ x. Evaluates plain AllKnown r s (state_of c.eval-in-Item.new.machine) (λ names. eval ps x)) (sym seen)
     (evaluates_exit plain AllKnown plain AllKnown r _ s (state_of c.eval-in-Item.new.machine) (λ names. eval ps list) (λ names d. eval_places ps d places) c.from_residual-in_err-value-in-Item.ensures.1 c.in_err-value-in-Item.ensures)
 
@@ -881,11 +769,11 @@ eval_any-returns-in_ok-value-in-Item t c =
     let s1 = state_of c.eval-in-Item.new.machine in
     let s2 = state_of c.item.new.machine in
     let ps = s.parameters in
-    let list = tree_of c.deref-in-Item-2.result.now in
-    let places = trees_of c.deref-in-Item-3.result.now in
+    let list = tree_of c.deref-in-Item.result.now in
+    let places = trees_of c.deref-in-Item-2.result.now in
     let r = c.item.result in
     let seen = ap tree_of c.in-Item.is ∙ (view-Item c.in-Item.list c.in-Item.places
-    ∙ (ap (λ x. item (tree_of x) (trees_of c.in-Item.places.items)) (sym c.deref-in-Item-2.ensures) ∙ ap (λ xs. item list (trees_of xs)) (sym c.deref-in-Item-3.ensures.value))) in
+    ∙ (ap (λ x. item (tree_of x) (trees_of c.in-Item.places.items)) (sym c.deref-in-Item.ensures) ∙ ap (λ xs. item list (trees_of xs)) (sym c.deref-in-Item-2.ensures.value))) in
     subst (λ x. Evaluates plain AllKnown r s s2 (λ names. eval ps x)) (sym seen)
     (evaluates_on plain AllKnown plain AllKnown c.in_ok-value-in-Item.value r s s1 s2 (λ names. eval ps list) (λ qs names d. eval_places qs d places) c.in_ok-value-in-Item.ensures c.item.ensures)
 
@@ -944,18 +832,6 @@ eval_any-returns-in_ok-a-in-Compare t c =
     subst (λ x. Evaluates plain AllKnown r s s2 (λ names. eval ps x)) (sym seen)
     (evaluates_on plain AllKnown plain AllKnown a r s s1 s2 (λ names. eval ps left) (λ qs names d. compared_with qs (relation rel) d right) c.in_ok-a-in-Compare.ensures
     (subst (λ op. Evaluates plain AllKnown r s1 s2 (λ names. compared_with s1.parameters op (plain names a) right)) c.relation_of.ensures c.compared.ensures))
-
-pub eval_any-returns-in-Var-deref : goal.eval_any-returns-in-Var-deref
-eval_any-returns-in-Var-deref t c =
-    let s = state_of c.args.machine.now in
-    let s1 = state_of c.named_item.new.machine in
-    let r = c.named_item.result in
-    let x = c.in-Var-deref.name in
-    let listed = ap tree_of (sym c.deref-in-Item.ensures ∙ c.in-Var-deref.is) ∙ view-Var x in
-    let seen = ap tree_of c.in-Item.is ∙ (view-Item c.in-Item.list c.in-Item.places
-    ∙ (ap (λ y. item y (trees_of c.in-Item.places.items)) listed
-    ∙ (ap (λ y. item (variable y) (trees_of c.in-Item.places.items)) (sym c.as_slice-in-Var-deref.ensures) ∙ ap (λ xs. item (variable c.as_slice-in-Var-deref.result.now) (trees_of xs)) (sym c.deref-in-Var-deref.ensures.value)))) in
-    subst (λ y. Evaluates plain AllKnown r s s1 (λ names. eval s.parameters y)) (sym seen) c.named_item.ensures
 
 pub eval_any-returns-in_err-a-in-Span : goal.eval_any-returns-in_err-a-in-Span
 eval_any-returns-in_err-a-in-Span t c =

@@ -1,8 +1,7 @@
-use Rattle.std.proofs.Common.{◌≡◌, None, ◌∷◌, Option, MatchOption, Result, Vec, Global, length, drop}
+use Rattle.std.proofs.Common.{◌≡◌, ◌∷◌, Option, MatchOption, Result, Vec, Global, length, drop}
 use Rattle.sg_value.specs.Known.{named}
 use Rattle.std.specs.Prelude.{⊤}
-use Rattle.sg_eval.specs.Given.{plain_where, known_where, plain_if, known_if}
-use Rattle.sg_eval.specs.Linked.{items_from}
+use Rattle.sg_eval.specs.Given.{plain_where, known_where}
 use Rattle.sg_eval.proofs.GivenSteps.{after_given}
 use Rattle.sg_value.specs.Plain.{AllKnown, AllKnownIn, plain, plain_of_all}
 use Rattle.sg_value.specs.declared.value.Value.{Value}
@@ -62,13 +61,4 @@ invariant-folded-loop-entry l = record {
   same : (state_of l.machine).parameters ≡ (state_of l.fn.machine).parameters;
   reached : (r : Result Value CallFault) (s : State) → Evaluates plain AllKnown r (state_of l.machine) s (λ names. fold_on l.fold (λ e. eval ((l.parameter, e) ∷ (state_of l.fn.machine).parameters) (tree_of l.body)) (plain_of_all names l.gathered.items) (plain_of_all names (drop l.entry-index l.entries)))
       → Evaluates plain AllKnown r (state_of l.fn.machine) s (λ names. fold_on l.fold (λ e. eval ((l.parameter, e) ∷ (state_of l.fn.machine).parameters) (tree_of l.body)) none (plain_of_all names l.entries));
-}
-
--- whatever comes of the places that are left comes of all
-abbrev pub invariant-named_item-loop-place : goal.invariant-named_item-loop-place
-invariant-named_item-loop-place l = record {
-  known : known_if (named (state_of l.machine).names) l.value;
-  same : (state_of l.machine).parameters ≡ (state_of l.fn.machine).parameters;
-  reached : (r : Result Value CallFault) (s : State) → Evaluates plain AllKnown r (state_of l.machine) s (λ names. items_from (state_of l.fn.machine).parameters l.name (plain_if names l.value) (trees_of (drop l.place-index l.places)))
-      → Evaluates plain AllKnown r (state_of l.fn.machine) s (λ names. items_from (state_of l.fn.machine).parameters l.name None (trees_of l.places));
 }

@@ -14,6 +14,7 @@ use Rattle.sg_tree.specs.TreeView.{tree_of}
 use Rattle.sg_eval.specs.Expressions.{eval}
 use Rattle.sg_eval.specs.Machine.{state_of}
 use Rattle.sg_eval.specs.Process.{gives, sets, ◌>>=◌}
+use Rattle.sg_eval.specs.Steps.{Executed}
 use Rattle.sg_eval.proofs.Executing.{at_top, executed_exit, executed_memory, executed_value, executed_sets, executed_gives}
 use Rattle.sg_eval.proofs.exec.assign.Goals as goal
 
@@ -65,3 +66,11 @@ returns-in-Some-clause-done c = λ taken.
     let change = g.ok ∙ (ap (λ y. with_value x (int y) s.variables) (to_z-of_z w64 z fit) ∙ ap (λ d. with_value x d s.variables) (sym (plain_integer s.names v z (contents-Int z)))) in
     executed_value plain AllKnown (eval [] t) (λ d. sets x d (gives tt)) v (Ok tt) s s s2 taken taken (at_top plain AllKnown (Ok v) s s (λ ps. eval ps t) c.requires c.in-Some.ensures)
     (executed_sets x (plain (named s.names) v) (gives tt) (Ok tt) s s2 s2 taken taken g.names change (executed_gives tt s2 taken (g.parameters ∙ c.requires)))
+
+pub returns-in-Some-others_onto-clause-done : goal.returns-in-Some-others_onto-clause-done
+returns-in-Some-others_onto-clause-done c = λ taken.
+    let s = state_of c.args.machine.now in
+    let s1 = state_of c.grow.new.machine in
+    let r = c.grow.result in
+    let given = subst (λ t. Executed r s s1 taken taken (eval [] t >>= (λ d. sets c.as_slice-variable.result.now d (gives tt)))) (sym c.in-Some-others_onto.ensures) (c.grow.ensures.done taken) in
+    subst (λ x. Executed r s s1 taken taken (eval [] (tree_of c.args.e.now) >>= (λ d. sets x d (gives tt)))) c.as_slice-variable.ensures given

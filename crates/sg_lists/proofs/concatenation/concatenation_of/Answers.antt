@@ -1,28 +1,20 @@
-use Rattle.std.proofs.Common.{◌≡◌, true, false, Some, sym, ◌∙◌}
-use Rattle.sg_value.specs.Data.{Items}
-use Rattle.sg_value.specs.Plain.{contents_of_all, Places}
-use Rattle.sg_lists.specs.Words.{joined}
-use Rattle.sg_lists.proofs.Concatenations.{some_of, not_lists, too_deep, too_heavy, within}
+use Rattle.std.proofs.Common.{Ok, Err, ap, ◌∙◌}
+use Rattle.sg_value.specs.Known.{named}
+use Rattle.sg_value.specs.Plain.{contents_of_all, plain_of_all}
+use Rattle.sg_lists.specs.Lists.{concatenation_of}
+use Rattle.sg_lists.proofs.Concatenations.{of_copy, of_none, of_fault}
 use Rattle.sg_lists.proofs.concatenation.concatenation_of.Goals as goal
 
-pub returns-then-not-are_lists : goal.returns-then-not-are_lists
-returns-then-not-are_lists c = λ store known. not_lists store c.args.lists.now (λ h. let t : false ≡ true = sym c.if-not-are_lists.true ∙ c.are_lists.ensures.1 h in cc)
+pub returns-in_default : goal.returns-in_default
+returns-in_default c = λ store known.
+    of_none store c.args.lists.now c.in_ok-from_vec.field-0 c.in_default.ensures.cases (c.in_ok-from_vec.ensures ∙ ap contents_of_all c.new.ensures.items) known
 
-pub returns-then-are_deep : goal.returns-then-are_deep
-returns-then-are_deep c = λ store known.
-    let vs = c.args.lists.now in
-    let all : (ds : Items Places) × (joined (contents_of_all vs) ≡ Some ds) = some_of (joined (contents_of_all vs)) (c.are_lists.ensures.0 c.if-not-are_lists.false) in
-    too_deep store vs all.0 all.1 (c.are_deep.ensures.0 c.if-are_deep.true)
-
-pub returns-then-are_heavy : goal.returns-then-are_heavy
-returns-then-are_heavy c = λ store known.
-    let vs = c.args.lists.now in
-    let all : (ds : Items Places) × (joined (contents_of_all vs) ≡ Some ds) = some_of (joined (contents_of_all vs)) (c.are_lists.ensures.0 c.if-not-are_lists.false) in
-    too_heavy store vs all.0 all.1 (λ h. let t : false ≡ true = sym c.if-are_deep.false ∙ c.are_deep.ensures.1 h in cc) ((c.are_heavy.ensures all.0 all.1).0 c.if-are_heavy.true)
+pub returns-in_err-concatenate_onto : goal.returns-in_err-concatenate_onto
+returns-in_err-concatenate_onto c = λ store known.
+    let e = c.in_err-concatenate_onto.field-0.0 in
+    of_fault store (concatenation_of (plain_of_all (named store) c.args.lists.now)) c.from_residual-in_err-concatenate_onto.result e c.from_residual-in_err-concatenate_onto.ensures.1
+    (of_copy (Err e) store c.in_ok-value.value c.in-Some.first.now c.in-Some.others.now c.args.lists.now c.in_ok-value.ensures c.in-Some.ensures.cases.0 (c.in_err-concatenate_onto.ensures.reply store) known)
 
 pub returns : goal.returns
 returns c = λ store known.
-    let vs = c.args.lists.now in
-    let all : (ds : Items Places) × (joined (contents_of_all vs) ≡ Some ds) = some_of (joined (contents_of_all vs)) (c.are_lists.ensures.0 c.if-not-are_lists.false) in
-    within store vs all.0 all.1 (λ h. let t : false ≡ true = sym c.if-are_deep.false ∙ c.are_deep.ensures.1 h in cc) (λ h. let t : false ≡ true = sym c.if-are_heavy.false ∙ (c.are_heavy.ensures all.0 all.1).1 h in cc) known
-    c.in_ok-from_vec.field-0 (c.in_ok-from_vec.ensures ∙ c.in_ok-copies_of_all.ensures all.0 all.1)
+    of_copy (Ok c.concatenate_onto.new.value) store c.in_ok-value.value c.in-Some.first.now c.in-Some.others.now c.args.lists.now c.in_ok-value.ensures c.in-Some.ensures.cases.0 (c.in_ok-concatenate_onto.ensures.reply store) known
