@@ -39,7 +39,7 @@ fit-copies b (suc n ∷ a) (m ∷ v) c e l h =
     omega (arith, here, rest)
 
 -- no place is above the length
-place-below_sum : (v : List ℕ) (k : ℕ) → get_or v k 0 ≤ sum v
+pub place-below_sum : (v : List ℕ) (k : ℕ) → get_or v k 0 ≤ sum v
 place-below_sum [] k = omega arith
 place-below_sum (m ∷ v) zero = omega (arith, sum_by-cons (λ n. n) m v)
 place-below_sum (m ∷ v) (suc k) = omega (arith, sum_by-cons (λ n. n) m v, place-below_sum v k)

@@ -172,8 +172,8 @@ ascends : (x : List ℕ) (ys : List (List ℕ)) → Climbs x ys → AllPairs IsL
 ascends x [] h = AllPairs-cons IsLexBelow x [] (All-nil (IsLexBelow x)) (pairs-nil IsLexBelow)
 ascends x (y ∷ ys) h = AllPairs-cons IsLexBelow x (y ∷ ys) (first-below x (y ∷ ys) h) (ascends y ys h.1)
 
-pub grown : ListsAscending (IsGrown 1 (pair_columns ((2 ∷ []) ∷ (3 ∷ []) ∷ []))) pairs
-grown = record {
+pub grown-pairs : ListsAscending (IsGrown 1 (pair_columns ((2 ∷ []) ∷ (3 ∷ []) ∷ []))) pairs
+grown-pairs = record {
   ascending = ascends (0 ∷ 0 ∷ 0 ∷ 1 ∷ []) ((0 ∷ 0 ∷ 1 ∷ 0 ∷ []) ∷ (0 ∷ 1 ∷ 0 ∷ 0 ∷ []) ∷ (0 ∷ 1 ∷ 0 ∷ 1 ∷ []) ∷ (0 ∷ 1 ∷ 1 ∷ 0 ∷ []) ∷ (0 ∷ 1 ∷ 2 ∷ 0 ∷ []) ∷ (0 ∷ 2 ∷ 2 ∷ 0 ∷ []) ∷ (0 ∷ 2 ∷ 3 ∷ 0 ∷ []) ∷ (1 ∷ 0 ∷ 0 ∷ 0 ∷ []) ∷ (1 ∷ 0 ∷ 0 ∷ 1 ∷ []) ∷ (1 ∷ 0 ∷ 1 ∷ 0 ∷ []) ∷ (2 ∷ 0 ∷ 0 ∷ 1 ∷ []) ∷ (2 ∷ 0 ∷ 0 ∷ 2 ∷ []) ∷ (3 ∷ 0 ∷ 0 ∷ 2 ∷ []) ∷ [])
       (inr (refl, inr (refl, inl (omega arith))), (inr (refl, inl (omega arith)), (inr (refl, inr (refl, inr (refl, inl (omega arith)))), (inr (refl, inr (refl, inl (omega arith))), (inr (refl, inr (refl, inl (omega arith))), (inr (refl, inl (omega arith)), (inr (refl, inr (refl, inl (omega arith))), (inl (omega arith), (inr (refl, inr (refl, inr (refl, inl (omega arith)))), (inr (refl, inr (refl, inl (omega arith))), (inl (omega arith), (inr (refl, inr (refl, inr (refl, inl (omega arith)))), (inl (omega arith), tt)))))))))))));
   exactly = λ p. ((λ c. All-contains (IsGrown 1 columns) pairs p all-grown c), (λ g. walk-stays g.2.0 (unit 4 g.0) p (unit-listed g.0 g.1) g.2.1));

@@ -9,3 +9,6 @@ pub mod EquationSamples
 pub mod GrownPairs
 pub mod GrownSamples
 pub mod AffineSamples
+pub mod CostSamples
+pub mod CountedSamples
+pub mod ConstructionSamples

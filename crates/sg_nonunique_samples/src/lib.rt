@@ -11,6 +11,7 @@
 pub mod affine;
 pub mod catenary;
 pub mod classes;
+pub mod costs;
 pub mod deltas;
 pub mod factorizations;
 pub mod omega;
