@@ -7,9 +7,10 @@ use Rattle.std.proofs.Math.Nat.{mod-le, mod-eq_of_lt, mod-add-div, mul-le-mul_le
 use Rattle.sg_defs.specs.Membership.{IsMember, IsNumericalSemigroup}
 use Rattle.sg_defs.specs.Apery.{IsApery}
 use Rattle.sg_defs.proofs.MembershipLemmas.{member-add}
-use Rattle.sg_apery.specs.Classes.{IsAboveEntry, IsClassList, IsKunz}
+use Rattle.sg_classes.specs.Classes.{IsAboveEntry, IsClassList, IsKunz}
+use Rattle.sg_classes.proofs.KunzLemmas.{kunz-from_closed}
+use Rattle.sg_classes.proofs.TableLemmas.{table-member}
 use Rattle.sg_apery.specs.Conditions.{IsInQuotient}
-use Rattle.sg_apery.proofs.DerivedLemmas.{kunz-from_closed, table-member}
 
 -- a / d, rounded up
 abbrev ceil : ℕ → ℕ → ℕ

@@ -7,11 +7,11 @@ use Rattle.std.proofs.lemmas.Int.{ints}
 use Rattle.std.proofs.lemmas.Nat.{mod_below}
 use Rattle.sg_defs.specs.Membership.{IsMember, IsIntegerMember}
 use Rattle.sg_defs.specs.Invariants.{IsFrobenius}
-use Rattle.sg_apery.proofs.AperyLemmas.{member-above, congruent-split}
-use Rattle.sg_apery.proofs.GeneratorLemmas.{contains-place}
-use Rattle.sg_apery.specs.Entries.{IsGreatest}
-use Rattle.sg_apery.specs.Fit.{IsSpan}
-use Rattle.sg_apery.specs.Table.{IsTable, IsMinimalTable}
+use Rattle.sg_classes.proofs.AperyLemmas.{member-above, congruent-split}
+use Rattle.sg_classes.proofs.GeneratorLemmas.{contains-place}
+use Rattle.sg_classes.specs.Entries.{IsGreatest}
+use Rattle.sg_classes.specs.Fit.{IsSpan}
+use Rattle.sg_classes.specs.Table.{IsTable, IsMinimalTable}
 
 -- the difference of two naturals is a natural or below 0
 minus_cases : (g m : ℕ) → ((y : ℕ) × (y + m ≡ g) × (pos g -ℤ pos m ≡ pos y)) ⊎ ((y : ℕ) × (g + suc y ≡ m) × (pos g -ℤ pos m ≡ negsuc y))

@@ -1,10 +1,11 @@
 -- Which naturals each constructor's semigroup has, and when each refusal comes.
+pub use Rattle.sg_small.specs.Sets.{IsInSmall, IsOutside, IsNotClosed, IsClosedSet}
+use Rattle.std.specs.Prelude.{◌≡◌, List, ℕ, ◌*◌, ◌<◌, ◌⊎◌, length, Contains}
+use Rattle.sg_defs.specs.Membership.{IsMember, Generates}
+use Rattle.sg_classes.specs.Classes.{IsAboveEntry, IsKunz}
+use Rattle.sg_classes.specs.Fit.{IsTooLarge}
 use Rattle.sg_apery.specs.declared.fault.TableFault.{TableFault}
 use Rattle.sg_apery.specs.declared.fault.TableFault.TheVariants.{BadArgument, TooLarge, Memory}
-use Rattle.std.specs.Prelude.{◌≡◌, List, ℕ, ◌+◌, ◌*◌, ◌<◌, ◌⊎◌, length, slice_index, Contains, EachIndex}
-use Rattle.sg_defs.specs.Membership.{IsMember, Generates}
-use Rattle.sg_apery.specs.Classes.{IsAboveEntry, IsKunz}
-use Rattle.sg_apery.specs.Fit.{IsTooLarge}
 
 -- no Apery list, or that of a semigroup past the limits
 abbrev pub IsAperyRefused : List ℕ → TableFault → Type 0
@@ -26,18 +27,6 @@ IsQuotientRefused G d BadArgument = d ≡ 0
 IsQuotientRefused G d TooLarge = (0 < d) × IsTooLarge (IsInQuotient G d)
 IsQuotientRefused G d (Memory e) = Unit {0}
 
--- an entry, or above every entry
-abbrev pub IsInSmall : List ℕ → ℕ → Type 0
-IsInSmall list n = Contains list n ⊎ EachIndex list (λ k. slice_index list k < n)
-
--- the sum of two numbers with P does not have P
-abbrev pub IsNotClosed : (ℕ → Type 0) → Type 0
-IsNotClosed P = (x y : ℕ) × P x × P y × (P (x + y) → ⊥)
-
--- the sum of two numbers with P has P
-abbrev pub IsClosedSet : (ℕ → Type 0) → Type 0
-IsClosedSet P = (x y : ℕ) → P x → P y → P (x + y)
-
 -- numbers that are not closed under sums, or a semigroup past the limits
 abbrev pub IsClosedRefused : (ℕ → Type 0) → TableFault → Type 0
 IsClosedRefused P BadArgument = IsNotClosed P
@@ -53,10 +42,6 @@ abbrev pub AreSmallRefused : List ℕ → TableFault → Type 0
 AreSmallRefused list BadArgument = (length list ≡ 0) ⊎ (Contains list 0 → ⊥) ⊎ IsNotClosed (IsInSmall list)
 AreSmallRefused list TooLarge = AreSmallAccepted list × IsTooLarge (IsInSmall list)
 AreSmallRefused list (Memory e) = Unit {0}
-
--- no entry
-abbrev pub IsOutside : List ℕ → ℕ → Type 0
-IsOutside list n = Contains list n → ⊥
 
 -- the naturals outside the list are no numerical semigroup, or one past the limits
 abbrev pub AreGapsRefused : List ℕ → TableFault → Type 0

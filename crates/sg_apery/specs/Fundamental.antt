@@ -1,42 +1,13 @@
--- Semigroups by their fundamental gaps.
-use Rattle.std.specs.Prelude.{◌≡◌, ℕ, ◌<◌, ◌≤◌, ◌⊎◌, Bool, true, false, List, length, slice_index, slice_index_or, EachIndex}
-use Rattle.std.specs.Int.{◌∣◌}
+-- When fundamental gaps are refused.
+pub use Rattle.sg_small.specs.Fundamental.{DividesAnEntry, DividesNone, AreWithin, HasPast, IsMarked, HasMarkedMultiple, IsDivisor}
+use Rattle.std.specs.Prelude.{ℕ, ◌⊎◌, List}
+use Rattle.sg_defs.specs.Membership.{Generates}
+use Rattle.sg_classes.specs.Fit.{IsTooLarge}
 use Rattle.sg_apery.specs.declared.fault.TableFault.{TableFault}
 use Rattle.sg_apery.specs.declared.fault.TableFault.TheVariants.{BadArgument, TooLarge, Memory}
-use Rattle.sg_apery.specs.declared.limits.TheConstants.{FUNDAMENTAL_GAP_LIMIT}
-use Rattle.sg_defs.specs.Membership.{Generates}
-use Rattle.sg_apery.specs.Fit.{IsTooLarge}
-
--- n divides an entry
-abbrev pub DividesAnEntry : List ℕ → ℕ → Type 0
-DividesAnEntry list n = (k : ℕ) × (k < length list) × (n ∣ slice_index list k)
-
--- n divides no entry
-abbrev pub DividesNone : List ℕ → ℕ → Type 0
-DividesNone list n = DividesAnEntry list n → ⊥
-
--- no entry is past the limit
-abbrev pub AreWithin : List ℕ → Type 0
-AreWithin list = EachIndex list (λ k. slice_index list k ≤ FUNDAMENTAL_GAP_LIMIT)
-
--- an entry is past the limit
-abbrev pub HasPast : List ℕ → Type 0
-HasPast list = (k : ℕ) × (k < length list) × (FUNDAMENTAL_GAP_LIMIT < slice_index list k)
 
 -- an entry past the limit; then naturals that are no numerical semigroup; then one past the limits
 abbrev pub AreFundamentalRefused : List ℕ → TableFault → Type 0
 AreFundamentalRefused list BadArgument = AreWithin list × ((M : List ℕ) → Generates (DividesNone list) M → ⊥)
 AreFundamentalRefused list TooLarge = HasPast list ⊎ (AreWithin list × IsTooLarge (DividesNone list))
 AreFundamentalRefused list (Memory e) = Unit {0}
-
--- place x is marked
-abbrev pub IsMarked : List Bool → ℕ → Type 0
-IsMarked marks x = slice_index_or marks x false ≡ true
-
--- a multiple of d above 0 is marked
-abbrev pub HasMarkedMultiple : List Bool → ℕ → Type 0
-HasMarkedMultiple marks d = (x : ℕ) × (0 < x) × (d ∣ x) × IsMarked marks x
-
--- d is above 0 and a multiple of it above 0 is marked
-abbrev pub IsDivisor : List Bool → ℕ → Type 0
-IsDivisor marks d = (0 < d) × HasMarkedMultiple marks d

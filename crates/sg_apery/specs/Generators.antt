@@ -1,22 +1,10 @@
 -- When given generators are refused.
+pub use Rattle.sg_classes.specs.Entries.{IsGreatest, IsDivisorOfAll, AreSmall, HasLarge}
 use Rattle.std.specs.Prelude.{ℕ, ◌<◌, ◌≤◌, ◌⊎◌, List, length, slice_index, EachIndex}
-use Rattle.std.specs.Int.{◌∣◌}
 use Rattle.sg_defs.specs.Membership.{IsNumericalSemigroup}
-use Rattle.sg_apery.specs.declared.limits.TheConstants.{GENERATOR_LIMIT, MULTIPLICITY_LIMIT}
+use Rattle.sg_classes.specs.declared.limits.TheConstants.{MULTIPLICITY_LIMIT}
 use Rattle.sg_apery.specs.declared.fault.TableFault.{TableFault}
 use Rattle.sg_apery.specs.declared.fault.TableFault.TheVariants.{BadArgument, TooLarge, Memory}
-
--- d divides every entry
-abbrev pub IsDivisorOfAll : ℕ → List ℕ → Type 0
-IsDivisorOfAll d xs = (k : ℕ) → k < length xs → d ∣ slice_index xs k
-
--- every entry is below the limit
-abbrev pub AreSmall : List ℕ → Type 0
-AreSmall given = EachIndex given (λ k. slice_index given k < GENERATOR_LIMIT)
-
--- an entry is past the limit
-abbrev pub HasLarge : List ℕ → Type 0
-HasLarge given = (k : ℕ) × (k < length given) × (GENERATOR_LIMIT ≤ slice_index given k)
 
 -- what accepted generators are
 pub record AreAccepted (given : List ℕ) : Type 0 where

@@ -1,13 +1,11 @@
-pub mod Small
-pub mod Conditions
 pub mod Classes
+pub mod Common
+pub mod Conditions
 pub mod Entries
 pub mod Fit
 pub mod Fundamental
 pub mod Generators
 pub mod Laws
-pub mod Minimal
+pub mod Limits
 pub mod Modular
-pub mod Relaxation
-pub mod Sums
 pub mod Table

@@ -1,24 +1,10 @@
--- Modular and proportionally modular semigroups.
-use Rattle.std.specs.Prelude.{◌≡◌, ℕ, ◌*◌, ◌%◌, ◌<◌, ◌≤◌, ◌⊎◌}
+-- When a modular or proportionally modular semigroup is refused.
+pub use Rattle.sg_small.specs.Modular.{IsModular, IsProportional, AreModular}
+use Rattle.std.specs.Prelude.{◌≡◌, ℕ, ◌<◌, ◌≤◌, ◌⊎◌}
+use Rattle.sg_classes.specs.declared.limits.TheConstants.{MODULUS_LIMIT}
+use Rattle.sg_classes.specs.Fit.{IsTooLarge}
 use Rattle.sg_apery.specs.declared.fault.TableFault.{TableFault}
 use Rattle.sg_apery.specs.declared.fault.TableFault.TheVariants.{BadArgument, TooLarge, Memory}
-use Rattle.sg_apery.specs.declared.limits.TheConstants.{MODULUS_LIMIT}
-use Rattle.sg_apery.specs.Fit.{IsTooLarge}
-
--- x is at least the remainder of a x
-abbrev pub IsModular : ℕ → ℕ → ℕ → Type 0
-IsModular a b x = (a * x) % b ≤ x
-
--- c x is at least the remainder of a x
-abbrev pub IsProportional : ℕ → ℕ → ℕ → ℕ → Type 0
-IsProportional a b c x = (a * x) % b ≤ c * x
-
--- numbers above 0, and a modulus within its limit
-pub record AreModular (a b c : ℕ) : Type 0 where
-  pub within : b ≤ MODULUS_LIMIT
-  pub first : 0 < a
-  pub modulus : 0 < b
-  pub factor : 0 < c
 
 -- a modulus past its limit; then a number that is 0; then a semigroup past the limits
 abbrev pub IsModularRefused : ℕ → ℕ → TableFault → Type 0

@@ -1,19 +1,19 @@
 //! Apery lists modulo any member, intersections and quotients.
 
-ghost use Rattle.std.specs.Prelude.{◌≡◌, ◌+◌, ◌*◌, ◌%◌, ◌<◌, ◌≤◌, ◌↔◌, ℕ, length, slice_index, EachIndex, IfOk, OnOk, IfErr, IfSome, IsNone};
-ghost use Rattle.sg_defs.specs.Membership.{IsMember, Generates};
+ghost use Rattle.std.specs.Prelude.{◌≡◌, ◌*◌, ◌%◌, ◌<◌, ◌≤◌, ◌↔◌, ℕ, length, slice_index, EachIndex, IfOk, OnOk, IfErr, IfSome, IsNone};
 ghost use Rattle.sg_defs.specs.Apery.{IsApery};
-ghost use Rattle.sg_apery.specs.Classes.{AreGreaterEntries, IsAboveEntry, IsClassList, IsCommonEntry, IsKunz};
+ghost use Rattle.sg_defs.specs.Membership.{IsMember, Generates};
+ghost use Rattle.sg_classes.specs.Classes.{IsAboveEntry, IsClassList, IsKunz};
+ghost use Rattle.sg_apery.specs.Common.{AreGreaterEntries, IsCommonEntry};
 ghost use Rattle.sg_apery.specs.Conditions.{IsInBoth, IsInQuotient, IsQuotientRefused};
 ghost use Rattle.sg_apery.specs.Fit.{IsSizeFault};
 
-use crate::constructors::apery_list;
 use crate::fault::TableFault;
 use crate::kunz::from_kunz;
-use crate::limits::{APERY_ENTRY_LIMIT, APERY_MODULUS_LIMIT, MULTIPLICITY_LIMIT};
-use crate::minimal::is_above_entry;
 use crate::table::Table;
+use sg_classes::{APERY_ENTRY_LIMIT, APERY_MODULUS_LIMIT, MULTIPLICITY_LIMIT, is_above_entry};
 use sg_nat::Nats;
+use sg_tables::apery_list;
 use std::alloc::{AllocError, Global};
 
 impl Table {

@@ -1,13 +1,14 @@
 //! The table of a numerical semigroup, and what it answers.
 
-ghost use Rattle.std.specs.Prelude.{◌≡◌, ◌*◌, ◌<◌, ◌≤◌, length, EachIndex, slice_index, IsTrue, ◌↔◌};
-ghost use Rattle.sg_defs.specs.Membership.{IsNumericalSemigroup, IsIntegerMember, IsMember, IsMinimal};
+ghost use Rattle.std.specs.Prelude.{◌≡◌, ◌<◌, ◌≤◌, length, EachIndex, slice_index, IsTrue, ◌↔◌};
 ghost use Rattle.sg_defs.specs.Apery.{IsApery, IsAperyEntry};
-ghost use Rattle.sg_apery.specs.Fit.{IsFit, IsNarrow, IsSpan};
-ghost use Rattle.sg_apery.specs.Table.{IsMinimalTable};
+ghost use Rattle.sg_defs.specs.Membership.{IsNumericalSemigroup, IsIntegerMember, IsMember, IsMinimal};
+ghost use Rattle.sg_classes.specs.Fit.{IsFit, IsNarrow, IsSpan};
+ghost use Rattle.sg_classes.specs.Table.{IsMinimalTable};
 
-use crate::arguments::greatest;
-use crate::limits::{APERY_ENTRY_LIMIT, MULTIPLICITY_LIMIT, NARROW_GENERATORS, NARROW_PRODUCT};
+use sg_classes::{
+    APERY_ENTRY_LIMIT, MULTIPLICITY_LIMIT, NARROW_GENERATORS, NARROW_PRODUCT, greatest,
+};
 use sg_nat::Nats;
 use std::marker::Model;
 
@@ -26,7 +27,7 @@ impl Model for Table {
 
     ghost view = { λ t. t.generators };
 
-    ghost use Rattle.sg_apery.specs.Table.{IsMinimalTable};
+    ghost use Rattle.sg_classes.specs.Table.{IsMinimalTable};
 
     ghost invariant = { λ t. IsMinimalTable t.generators t.apery.items };
 }

@@ -2,7 +2,7 @@
 use Rattle.std.specs.Prelude.{◌≡◌, ℕ, ◌+◌, ◌%◌, ◌<◌, ◌≤◌, ◌⊎◌, Bool, true, List, length, slice_index, slice_index_or, Contains}
 use Rattle.sg_defs.specs.Membership.{IsMember}
 use Rattle.sg_apery.specs.Fit.{IsSpan}
-use Rattle.sg_apery.specs.declared.limits.TheConstants.{SPAN_LIMIT}
+use Rattle.sg_apery.specs.Limits.{SPAN_LIMIT}
 
 -- the span is within the limit
 abbrev pub IsShort : List ℕ → Type 0

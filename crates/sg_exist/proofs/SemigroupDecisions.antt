@@ -6,7 +6,7 @@ use Rattle.std.specs.List.Sorted.{IsStrictlyIncreasing}
 use Rattle.std.proofs.lemmas.Nat.Gcd.{le_of_dvd}
 use Rattle.sg_defs.specs.Membership.{IsMember, Generates, IsNumericalSemigroup, IsMinimal}
 use Rattle.sg_apery.specs.Fit.{IsFit}
-use Rattle.sg_apery.specs.declared.limits.TheConstants.{GENERATOR_LIMIT, MULTIPLICITY_LIMIT}
+use Rattle.sg_apery.specs.Limits.{GENERATOR_LIMIT, MULTIPLICITY_LIMIT}
 use Rattle.sg_apery.proofs.OneListLemmas.{one-minimal_list}
 use Rattle.sg_defs.proofs.DecidedLemmas.{member-decided}
 use Rattle.sg_exist.specs.Decided.{Decided}

@@ -5,7 +5,7 @@ use Rattle.std.proofs.lemmas.Int.{ints}
 use lib.Signed.{lt_z}
 use Rattle.sg_defs.specs.Apery.{IsApery}
 use Rattle.sg_defs.specs.Membership.{IsIntegerMember}
-use Rattle.sg_apery.specs.declared.limits.TheConstants.{APERY_MODULUS_LIMIT}
+use Rattle.sg_apery.specs.Limits.{APERY_MODULUS_LIMIT}
 use Rattle.sg_rows.proofs.Replying.{Passes}
 use Rattle.sg_facts.specs.Modulo.{IsAperyModulo, apery_modulo}
 

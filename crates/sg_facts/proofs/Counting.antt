@@ -6,7 +6,7 @@ use Rattle.std.proofs.lemmas.List.{length_push}
 use Rattle.sg_defs.specs.Listings.{Lists}
 use Rattle.sg_defs.specs.Membership.{IsMember}
 use Rattle.sg_defs.specs.Invariants.{IsConductor, IsGap, IsGenus, AreSmallElements}
-use Rattle.sg_apery.specs.declared.limits.TheConstants.{SPAN_LIMIT}
+use Rattle.sg_apery.specs.Limits.{SPAN_LIMIT}
 use Rattle.sg_apery.proofs.OneListLemmas.{one-list}
 use Rattle.sg_invar.proofs.ListingLemmas.{ListsBelow, lists-none, lists-skip, lists-push, lists-same, lists-all}
 use Rattle.sg_invar.proofs.GapLemmas.{gap-below_conductor}

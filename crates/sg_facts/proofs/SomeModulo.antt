@@ -3,7 +3,7 @@ use Rattle.std.proofs.Common.{ℕ, zero, suc, ℤ, pos, negsuc, List, refl, inl,
 use Rattle.std.specs.Prelude.{◌⊎◌, ◌<ℤ◌}
 use Rattle.std.proofs.lemmas.Int.{ints}
 use Rattle.sg_defs.specs.Membership.{IsIntegerMember, IsNumericalSemigroup}
-use Rattle.sg_apery.specs.declared.limits.TheConstants.{APERY_MODULUS_LIMIT}
+use Rattle.sg_apery.specs.Limits.{APERY_MODULUS_LIMIT}
 use Rattle.sg_exist.proofs.Decisions.{decided-not, decided-or, decided-lt_z}
 use Rattle.sg_exist.proofs.MemberDecisions.{member-decided}
 use Rattle.sg_exist.proofs.InvariantsExist.{integer_member-decided, apery-exists}

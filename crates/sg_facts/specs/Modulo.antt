@@ -2,7 +2,7 @@
 use Rattle.std.specs.Prelude.{◌≡◌, ◌⊎◌, ◌<◌, ◌<ℤ◌, ℕ, ℤ, pos, List}
 use Rattle.sg_defs.specs.Apery.{IsApery}
 use Rattle.sg_defs.specs.Membership.{IsMember, IsIntegerMember}
-use Rattle.sg_apery.specs.declared.limits.TheConstants.{APERY_MODULUS_LIMIT}
+use Rattle.sg_apery.specs.Limits.{APERY_MODULUS_LIMIT}
 use Rattle.sg_rows.specs.Order.{Plain, Row, Case, fits}
 use Rattle.sg_rows.specs.Kinds.{given, answers}
 use Rattle.sg_rows.specs.Listed.{naturals_with}

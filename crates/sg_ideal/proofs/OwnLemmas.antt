@@ -12,7 +12,7 @@ use Rattle.sg_defs.specs.Invariants.{IsFrobenius, IsPseudoFrobenius}
 use Rattle.sg_defs.specs.Ideals.{IsIdealMember, IsInCanonical, IsInMaximal, IsMinimalIdeal}
 use Rattle.sg_defs.proofs.OneLemmas.{one-frobenius}
 use Rattle.sg_defs.proofs.MembershipLemmas.{member-zero, member-add, member-entry}
-use Rattle.sg_apery.specs.declared.limits.TheConstants.{APERY_ENTRY_LIMIT}
+use Rattle.sg_apery.specs.Limits.{APERY_ENTRY_LIMIT}
 use Rattle.sg_apery.specs.Fit.{IsFit}
 use Rattle.sg_apery.proofs.GeneratorLemmas.{contains-place, entry-positive, member-listed, member-split}
 use Rattle.sg_invar.proofs.PseudoFrobeniusLemmas.{outside-below, pseudo_frobenius-from_generators, pseudo_frobenius-low}

@@ -3,7 +3,7 @@ use Rattle.std.specs.Prelude.{◌≡◌, ℕ, ℤ, pos, ◌+ℤ◌, ◌-ℤ◌, 
 use Rattle.sg_defs.specs.Membership.{AtNatural}
 use Rattle.sg_apery.specs.Classes.{IsAboveEntry}
 use Rattle.sg_lawful.specs.Lawful.{IsLawfulList}
-use Rattle.sg_apery.specs.declared.limits.TheConstants.{APERY_ENTRY_LIMIT, MULTIPLICITY_LIMIT}
+use Rattle.sg_apery.specs.Limits.{APERY_ENTRY_LIMIT, MULTIPLICITY_LIMIT}
 use Rattle.sg_ideal.specs.Value.{GeneratesIdeal}
 use Rattle.sg_lawful.specs.Generators.{AreSmall}
 

@@ -22,7 +22,7 @@ use Rattle.sg_defs.specs.Invariants.{IsPseudoFrobenius}
 use Rattle.sg_invar.proofs.EntryLemmas.{entry-unique}
 use Rattle.sg_invar.proofs.PseudoFrobeniusLemmas.{maximal-entry}
 use Rattle.sg_invar.specs.Maximal.{IsMaximalEntry, Collects}
-use Rattle.sg_apery.specs.declared.limits.TheConstants.{APERY_ENTRY_LIMIT}
+use Rattle.sg_apery.specs.Limits.{APERY_ENTRY_LIMIT}
 
 pub collects-none : (G : List ℕ) (m : ℕ) → Collects G m 0 []
 collects-none G m = record {

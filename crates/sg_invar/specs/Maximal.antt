@@ -1,7 +1,7 @@
 -- The maximal entries of an Apery list.
 use Rattle.std.specs.Prelude.{ℕ, pos, ◌-ℤ◌, ◌%◌, ◌<◌, ◌≤◌, ◌≢◌, ◌↔◌, List, Contains, AllPairs}
 use Rattle.sg_defs.specs.Invariants.{IsPseudoFrobenius}
-use Rattle.sg_apery.specs.declared.limits.TheConstants.{APERY_ENTRY_LIMIT}
+use Rattle.sg_apery.specs.Limits.{APERY_ENTRY_LIMIT}
 
 -- w less the modulus is a pseudo-Frobenius number
 abbrev pub IsMaximalEntry : List ℕ → ℕ → ℕ → Type 0

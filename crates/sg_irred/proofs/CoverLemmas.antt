@@ -11,7 +11,7 @@ use Rattle.sg_defs.specs.Membership.{IsMember, IsIntegerMember, Generates}
 use Rattle.sg_defs.specs.Invariants.{IsFrobenius}
 use Rattle.sg_apery.specs.Classes.{IsAboveEntry, IsKunz}
 use Rattle.sg_apery.specs.Fit.{IsPastLimits, IsSpan, IsTooLarge}
-use Rattle.sg_apery.specs.declared.limits.TheConstants.{GENERATOR_LIMIT, MULTIPLICITY_LIMIT, SPAN_LIMIT}
+use Rattle.sg_apery.specs.Limits.{GENERATOR_LIMIT, MULTIPLICITY_LIMIT, SPAN_LIMIT}
 use Rattle.sg_apery.proofs.AperyLemmas.{congruent-split}
 use Rattle.sg_apery.proofs.EntryLemmas.{first-least}
 use Rattle.sg_apery.proofs.GeneratorLemmas.{member-split}

@@ -13,7 +13,7 @@ use Rattle.sg_defs.specs.Symmetry.{IsIrreducible}
 use Rattle.sg_defs.specs.Decomposition.{IsInCover, IsInEachCover, IsChosen, IsInAll, IsIrredundant}
 use Rattle.sg_defs.proofs.MembershipLemmas.{member-zero}
 use Rattle.sg_apery.specs.Fit.{IsSpan}
-use Rattle.sg_apery.specs.declared.limits.TheConstants.{SPAN_LIMIT}
+use Rattle.sg_apery.specs.Limits.{SPAN_LIMIT}
 use Rattle.sg_irred.specs.Cover.{AreNatural}
 use Rattle.sg_defs.proofs.SymmetryLemmas.{symmetric-irreducible}
 use Rattle.sg_irred.proofs.TestLemmas.{naturals-symmetric}

@@ -8,7 +8,7 @@ use Rattle.sg_defs.proofs.MembershipLemmas.{member-entry}
 use Rattle.sg_apery.specs.Fit.{IsFit}
 use Rattle.sg_apery.specs.Generators.{AreAccepted, AreRefused}
 use Rattle.sg_apery.specs.declared.fault.TableFault.TheVariants as table
-use Rattle.sg_apery.specs.declared.limits.TheConstants.{GENERATOR_LIMIT, MULTIPLICITY_LIMIT}
+use Rattle.sg_apery.specs.Limits.{GENERATOR_LIMIT, MULTIPLICITY_LIMIT}
 use Rattle.sg_makers.specs.Words.{AreSmall, ArePositive, naturals, Generate}
 use Rattle.sg_makers.proofs.Serving.{Serves}
 

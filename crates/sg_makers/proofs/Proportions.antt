@@ -6,7 +6,7 @@ use Rattle.std.proofs.lemmas.Int.{ints, to_z-of_z}
 use lib.Signed.{lt_z}
 use mir.Val.{to_z, of_z}
 use Rattle.sg_apery.specs.Modular.{AreModular, IsModular, IsModularRefused, IsProportional, IsProportionalRefused}
-use Rattle.sg_apery.specs.declared.limits.TheConstants.{MODULUS_LIMIT}
+use Rattle.sg_apery.specs.Limits.{MODULUS_LIMIT}
 use Rattle.sg_makers.proofs.Serving.{Serves, unfit}
 
 not_less : (a b : ℤ) → lt_z a b ≡ false → b ≤ℤ a

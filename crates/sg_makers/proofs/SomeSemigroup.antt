@@ -8,7 +8,7 @@ use Rattle.sg_apery.specs.Classes.{IsAboveEntry, IsKunz}
 use Rattle.sg_apery.specs.Conditions.{IsInBoth, IsInQuotient, IsClosedSet}
 use Rattle.sg_apery.specs.Fundamental.{DividesNone}
 use Rattle.sg_apery.specs.Modular.{IsModular, IsProportional}
-use Rattle.sg_apery.specs.declared.limits.TheConstants.{GENERATOR_LIMIT, FUNDAMENTAL_GAP_LIMIT, MODULUS_LIMIT}
+use Rattle.sg_apery.specs.Limits.{GENERATOR_LIMIT, FUNDAMENTAL_GAP_LIMIT, MODULUS_LIMIT}
 use Rattle.sg_exist.specs.Decided.{Decided}
 use Rattle.sg_exist.proofs.Decisions.{decided-not, decided-and, decided-or, decided-same, decided-all, decided-eq_z, decided-lt_z, decided-le_z, some-below}
 use Rattle.sg_exist.proofs.SemigroupDecisions.{semigroup-decided}

@@ -1,7 +1,7 @@
 -- The rows of modular and proportionally modular semigroups.
 use Rattle.std.specs.Prelude.{ℤ, pos, ◌<ℤ◌, ◌⊎◌, unsigned_abs}
 use Rattle.sg_apery.specs.Modular.{IsModular, IsProportional}
-use Rattle.sg_apery.specs.declared.limits.TheConstants.{MODULUS_LIMIT}
+use Rattle.sg_apery.specs.Limits.{MODULUS_LIMIT}
 use Rattle.sg_rows.specs.Order.{Plain, Case, fits}
 use Rattle.sg_rows.specs.Kinds.{given, as_integer, generates}
 

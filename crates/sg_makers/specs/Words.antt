@@ -4,7 +4,7 @@ use Rattle.sg_defs.specs.Membership.{IsNumericalSemigroup, Generates}
 use Rattle.sg_apery.specs.Classes.{IsKunz}
 use Rattle.sg_apery.specs.Conditions.{IsClosedSet}
 use Rattle.sg_apery.specs.Fundamental.{DividesNone}
-use Rattle.sg_apery.specs.declared.limits.TheConstants.{GENERATOR_LIMIT, FUNDAMENTAL_GAP_LIMIT}
+use Rattle.sg_apery.specs.Limits.{GENERATOR_LIMIT, FUNDAMENTAL_GAP_LIMIT}
 
 -- all entries are below the limit of generators
 abbrev pub AreSmall : List ℤ → Type 0

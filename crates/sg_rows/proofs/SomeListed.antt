@@ -4,7 +4,7 @@ use Rattle.sg_value.specs.Plain.{Things}
 use Rattle.std.specs.Prelude.{IfSome, All}
 use Rattle.std.proofs.lemmas.List.Elements.{All-head, All-tail}
 use Rattle.sg_defs.specs.Membership.{IsNumericalSemigroup}
-use Rattle.sg_apery.specs.declared.limits.TheConstants.{SPAN_LIMIT}
+use Rattle.sg_apery.specs.Limits.{SPAN_LIMIT}
 use Rattle.sg_exist.proofs.SpansExist.{wide-decided}
 use Rattle.sg_value.specs.Data.{int, semigroup, Items, none, item, items_of}
 use Rattle.sg_rows.specs.Order.{Plain, Case, fits}

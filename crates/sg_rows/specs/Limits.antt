@@ -1,7 +1,7 @@
 -- The limit of work that grows with a semigroup.
 use Rattle.std.specs.Prelude.{ℕ, ◌<◌, ◌≤◌, List}
 use Rattle.sg_apery.specs.Fit.{IsSpan}
-use Rattle.sg_apery.specs.declared.limits.TheConstants.{SPAN_LIMIT}
+use Rattle.sg_apery.specs.Limits.{SPAN_LIMIT}
 use Rattle.sg_rows.specs.Order.{Plain, Row}
 use Rattle.sg_rows.specs.Kinds.{answers}
 

@@ -7,7 +7,7 @@ use Rattle.sg_defs.specs.Symmetry.{IsSymmetric, IsPseudoSymmetric, IsIrreducible
 use Rattle.sg_defs.specs.Closures.{IsArf, IsMed, IsSaturated, IsLeast}
 use Rattle.sg_defs.specs.Decomposition.{IsDecomposition}
 use Rattle.sg_apery.specs.Fit.{IsFit}
-use Rattle.sg_apery.specs.declared.limits.TheConstants.{SPAN_LIMIT}
+use Rattle.sg_apery.specs.Limits.{SPAN_LIMIT}
 use Rattle.sg_apery.proofs.OneListLemmas.{one-minimal_list}
 use Rattle.sg_exist.specs.Decided.{Decided}
 use Rattle.sg_exist.proofs.Decisions.{decided-or}

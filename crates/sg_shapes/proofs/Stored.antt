@@ -5,7 +5,7 @@ use Rattle.std.specs.List.{AllZip}
 use Rattle.std.proofs.lemmas.Bool.{cases_lt}
 use Rattle.sg_defs.specs.Membership.{IsMember, IsNumericalSemigroup, IsMinimal, IsMultiplicity, Holds, Generates}
 use Rattle.sg_defs.specs.Decomposition.{IsInCover, IsDecomposition}
-use Rattle.sg_apery.specs.declared.limits.TheConstants.{GENERATOR_LIMIT, MULTIPLICITY_LIMIT, SPAN_LIMIT}
+use Rattle.sg_apery.specs.Limits.{GENERATOR_LIMIT, MULTIPLICITY_LIMIT, SPAN_LIMIT}
 use Rattle.sg_closure.proofs.MultiplicityLemmas.{first-multiplicity, no_sum}
 use Rattle.sg_closure.proofs.FitLemmas.{span-above}
 use Rattle.sg_irred.proofs.CoverLemmas.{cover-member}

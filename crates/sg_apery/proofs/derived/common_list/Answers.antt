@@ -1,9 +1,11 @@
 use Rattle.std.proofs.Common.{ℕ, ◌↔◌, ◌∙◌}
 use Rattle.std.proofs.lemmas.Result.{IfOk-weaker}
 use Rattle.sg_defs.specs.Apery.{IsApery}
-use Rattle.sg_apery.specs.Classes.{AreGreaterEntries, IsAboveEntry, IsKunz}
+use Rattle.sg_classes.specs.Classes.{IsAboveEntry, IsKunz}
+use Rattle.sg_classes.proofs.TableLemmas.{table-modulo}
+use Rattle.sg_apery.specs.Common.{AreGreaterEntries}
 use Rattle.sg_apery.specs.Conditions.{IsInBoth}
-use Rattle.sg_apery.proofs.DerivedLemmas.{greater-kunz, greater-member, table-modulo}
+use Rattle.sg_apery.proofs.CommonLemmas.{greater-kunz, greater-member}
 use Rattle.sg_apery.proofs.derived.common_list.Goals as goal
 use Rattle.sg_apery.proofs.derived.common_list.Goals.{After-drop-first-2}
 

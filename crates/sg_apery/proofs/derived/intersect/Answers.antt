@@ -1,12 +1,14 @@
 use Rattle.std.proofs.Common.{◌≡◌, ℕ, ◌↔◌, List, refl, sym, subst}
 use Rattle.std.proofs.lemmas.Result.{IfOk-weaker, IfErr-weaker}
 use Rattle.sg_defs.specs.Membership.{Generates}
-use Rattle.sg_apery.specs.Classes.{IsAboveEntry, IsKunz}
+use Rattle.sg_classes.specs.Classes.{IsAboveEntry, IsKunz}
+use Rattle.sg_classes.proofs.TableLemmas.{table-long, table-member}
+use Rattle.sg_classes.proofs.EntryLemmas.{generates-iff}
+use Rattle.sg_classes.specs.declared.limits.TheConstants.{APERY_ENTRY_LIMIT}
 use Rattle.sg_apery.specs.Conditions.{IsInBoth}
 use Rattle.sg_apery.specs.Fit.{IsSizeFault}
-use Rattle.sg_apery.proofs.DerivedLemmas.{table-long, table-member, both-too_large, generates-iff, size_fault-iff}
+use Rattle.sg_apery.proofs.CommonLemmas.{both-too_large, size_fault-iff}
 use Rattle.sg_apery.proofs.derived.intersect.Goals as goal
-use Rattle.sg_apery.specs.declared.limits.TheConstants.{APERY_ENTRY_LIMIT}
 
 pub common_member-requires-clause-first : goal.common_member-requires-clause-first
 common_member-requires-clause-first c = table-long c.args.a.now c.apery.result.now c.apery.ensures.semigroup c.apery.ensures.entries

@@ -1,12 +1,13 @@
 use Rattle.std.proofs.Common.{◌≡◌, ℕ, ◌↔◌, List, sym, subst, arith}
 use Rattle.std.proofs.lemmas.Result.{IfOk-weaker, IfErr-weaker}
 use Rattle.sg_defs.specs.Membership.{Generates}
-use Rattle.sg_apery.specs.Classes.{IsAboveEntry, IsKunz}
+use Rattle.sg_classes.specs.Classes.{IsAboveEntry, IsKunz}
+use Rattle.sg_classes.proofs.TableLemmas.{table-zero}
+use Rattle.sg_classes.proofs.EntryLemmas.{generates-iff, too_large-iff}
 use Rattle.sg_apery.specs.Conditions.{IsInQuotient, IsQuotientRefused}
 use Rattle.sg_apery.specs.Fit.{IsSizeFault}
 use Rattle.sg_apery.specs.declared.fault.TableFault.{TableFault}
 use Rattle.sg_apery.specs.declared.fault.TableFault.TheVariants.{BadArgument, TooLarge, Memory}
-use Rattle.sg_apery.proofs.DerivedLemmas.{table-zero, generates-iff, too_large-iff}
 use Rattle.sg_apery.proofs.QuotientLemmas.{quotient-member, quotient-kunz}
 use Rattle.sg_apery.proofs.derived.quotient.Goals as goal
 

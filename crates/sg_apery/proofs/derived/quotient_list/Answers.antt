@@ -1,7 +1,7 @@
 use Rattle.std.proofs.Common.{◌≡◌, ℕ, ◌*◌, ◌%◌, ◌≤◌, ◌↔◌, length, arith}
 use Rattle.std.proofs.lemmas.List.{length_push}
-use Rattle.sg_apery.specs.Classes.{IsAboveEntry}
-use Rattle.sg_apery.proofs.GeneratorLemmas.{each-push}
+use Rattle.sg_classes.specs.Classes.{IsAboveEntry}
+use Rattle.sg_classes.proofs.GeneratorLemmas.{each-push}
 use Rattle.sg_apery.proofs.QuotientLemmas.{quotient-classes}
 use Rattle.sg_apery.proofs.derived.quotient_list.Goals as goal
 

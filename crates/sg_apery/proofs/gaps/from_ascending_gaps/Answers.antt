@@ -1,9 +1,10 @@
 use Rattle.std.proofs.Common.{◌≡◌, ℕ, ◌↔◌, List, refl, sym, subst}
 use Rattle.std.proofs.lemmas.Result.{IfOk-weaker, IfErr-weaker}
 use Rattle.sg_defs.specs.Membership.{Generates}
-use Rattle.sg_apery.specs.Conditions.{AreGapsRefused, IsClosedRefused, IsInSmall, IsOutside}
-use Rattle.sg_apery.specs.Small.{AreSmallElements}
-use Rattle.sg_apery.proofs.DerivedLemmas.{generates-iff}
+use Rattle.sg_classes.proofs.EntryLemmas.{generates-iff}
+use Rattle.sg_small.specs.Sets.{IsInSmall, IsOutside}
+use Rattle.sg_small.specs.Small.{AreSmallElements}
+use Rattle.sg_apery.specs.Conditions.{AreGapsRefused, IsClosedRefused}
 use Rattle.sg_apery.proofs.GapLemmas.{gaps-refused, too-few}
 use Rattle.sg_apery.proofs.gaps.from_ascending_gaps.Goals as goal
 

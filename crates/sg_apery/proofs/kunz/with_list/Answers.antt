@@ -1,4 +1,4 @@
-use Rattle.sg_apery.proofs.KunzLemmas.{kunz-minimal_table}
+use Rattle.sg_classes.proofs.KunzLemmas.{kunz-minimal_table}
 use Rattle.sg_apery.proofs.kunz.with_list.Goals as goal
 
 pub from_parts-requires : goal.from_parts-requires

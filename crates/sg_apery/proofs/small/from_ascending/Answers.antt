@@ -1,9 +1,10 @@
 use Rattle.std.proofs.lemmas.Result.{IfOk-weaker, IfErr-weaker}
 use Rattle.sg_defs.specs.Membership.{Generates}
-use Rattle.sg_apery.specs.Conditions.{IsClosedRefused, IsClosedSet, IsInSmall}
+use Rattle.sg_classes.proofs.EntryLemmas.{generates-iff}
+use Rattle.sg_small.specs.Sets.{IsClosedSet, IsInSmall}
+use Rattle.sg_apery.specs.Conditions.{IsClosedRefused}
 use Rattle.sg_apery.specs.Fit.{IsSizeFault}
-use Rattle.sg_apery.proofs.DerivedLemmas.{generates-iff}
-use Rattle.sg_apery.proofs.TrimLemmas.{not_closed-iff, closed-iff, size_closed}
+use Rattle.sg_apery.proofs.SizeLemmas.{not_closed-iff, closed-iff, size_closed}
 use Rattle.sg_apery.proofs.small.from_ascending.Goals as goal
 
 pub returns-clause-generated : goal.returns-clause-generated

@@ -1,11 +1,12 @@
 use Rattle.std.proofs.Common.{◌≡◌, ℕ, ◌↔◌, List, sym, subst}
 use Rattle.std.proofs.lemmas.Result.{IfOk-weaker, IfErr-weaker}
 use Rattle.sg_defs.specs.Membership.{Generates}
-use Rattle.sg_apery.specs.Classes.{IsAboveEntry, IsKunz}
-use Rattle.sg_apery.specs.Conditions.{IsInSmall}
+use Rattle.sg_classes.specs.Classes.{IsAboveEntry, IsKunz}
+use Rattle.sg_classes.proofs.EntryLemmas.{generates-iff}
+use Rattle.sg_small.specs.Sets.{IsInSmall}
+use Rattle.sg_small.proofs.TrimLemmas.{small-too_large_least, small-too_large_gap}
 use Rattle.sg_apery.specs.Fit.{IsSizeFault}
-use Rattle.sg_apery.proofs.DerivedLemmas.{generates-iff, size_fault-iff}
-use Rattle.sg_apery.proofs.TrimLemmas.{small-too_large_least, small-too_large_gap}
+use Rattle.sg_apery.proofs.CommonLemmas.{size_fault-iff}
 use Rattle.sg_apery.proofs.small.from_closed.Goals as goal
 
 pub returns-then-multiplicity-gt-MULTIPLICITY_LIMIT-clause-refused : goal.returns-then-multiplicity-gt-MULTIPLICITY_LIMIT-clause-refused

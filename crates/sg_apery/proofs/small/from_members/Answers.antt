@@ -1,9 +1,10 @@
 use Rattle.std.proofs.lemmas.Result.{IfOk-weaker, IfErr-weaker}
 use Rattle.sg_defs.specs.Membership.{Generates}
-use Rattle.sg_apery.specs.Conditions.{IsInSmall}
+use Rattle.sg_classes.proofs.EntryLemmas.{generates-iff}
+use Rattle.sg_small.specs.Sets.{IsInSmall}
 use Rattle.sg_apery.specs.Fit.{IsSizeFault}
-use Rattle.sg_apery.proofs.DerivedLemmas.{generates-iff, size_fault-iff}
-use Rattle.sg_apery.proofs.TrimLemmas.{closed-iff}
+use Rattle.sg_apery.proofs.CommonLemmas.{size_fault-iff}
+use Rattle.sg_apery.proofs.SizeLemmas.{closed-iff}
 use Rattle.sg_apery.proofs.small.from_members.Goals as goal
 
 pub from_closed-requires-clause-closed : goal.from_closed-requires-clause-closed

@@ -1,7 +1,7 @@
 use Rattle.std.proofs.Common.{slice_index, ◌≤◌}
 use Rattle.sg_invar.proofs.FrobeniusLemmas.{IsGreatest}
 use Rattle.sg_invar.proofs.numbers.frobenius.Given as goal
-use Rattle.sg_apery.specs.declared.limits.TheConstants.{APERY_ENTRY_LIMIT}
+use Rattle.sg_apery.specs.Limits.{APERY_ENTRY_LIMIT}
 
 abbrev pub invariant-loop-i : goal.invariant-loop-i
 invariant-loop-i l = record {

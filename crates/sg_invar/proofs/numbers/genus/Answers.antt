@@ -2,7 +2,7 @@ use Rattle.std.proofs.Common.{◌≡◌, ◌+◌, ◌/◌, sym, subst, refl, get
 use Rattle.sg_invar.proofs.MultiplicityLemmas.{multiplicity-member}
 use Rattle.sg_invar.proofs.GenusLemmas.{IsSumOfQuotients, quotients-more, genus-from_quotients, decided-from_quotients}
 use Rattle.sg_invar.proofs.numbers.genus.Goals as goal
-use Rattle.sg_apery.specs.declared.limits.TheConstants.{APERY_ENTRY_LIMIT}
+use Rattle.sg_apery.specs.Limits.{APERY_ENTRY_LIMIT}
 
 pub loop-i-preserved : goal.loop-i-preserved
 loop-i-preserved c =

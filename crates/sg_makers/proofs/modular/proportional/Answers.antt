@@ -1,7 +1,7 @@
 use Rattle.std.proofs.Common.{◌⊎◌, pos, nat_abs}
 use Rattle.std.specs.Prelude.{◌<ℤ◌}
 use Rattle.sg_apery.specs.Modular.{AreModular, IsProportional, IsProportionalRefused}
-use Rattle.sg_apery.specs.declared.limits.TheConstants.{MODULUS_LIMIT}
+use Rattle.sg_apery.specs.Limits.{MODULUS_LIMIT}
 use Rattle.sg_makers.proofs.Serving.{settles}
 use Rattle.sg_makers.proofs.Proportions.{proportional_serves, seen}
 use Rattle.sg_makers.proofs.modular.proportional.Goals as goal

@@ -2,7 +2,7 @@ use Rattle.std.proofs.Common.{◌↔◌, subst, to_z, of_z, w64}
 use Rattle.std.specs.Prelude.{IsTrue}
 use Rattle.std.proofs.lemmas.Int.{to_z-of_z}
 use Rattle.sg_defs.specs.Membership.{IsIntegerMember}
-use Rattle.sg_apery.proofs.TableLemmas.{contains-integer}
+use Rattle.sg_apery.proofs.ReadLemmas.{contains-integer}
 use Rattle.sg_apery.proofs.table.Table.contains.Goals as goal
 
 pub returns : goal.returns

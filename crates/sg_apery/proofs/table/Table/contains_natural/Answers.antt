@@ -1,8 +1,8 @@
 use Rattle.std.proofs.Common.{◌≡◌, ◌%◌, length, get_or, subst, ◌∙◌, rules}
 use Rattle.std.specs.Prelude.{vec_len}
 use Rattle.std.proofs.lemmas.Bool.{leb-true, le-leb}
-use Rattle.sg_apery.specs.Table.{IsTable}
-use Rattle.sg_apery.proofs.TableLemmas.{contains-natural}
+use Rattle.sg_classes.specs.Table.{IsTable}
+use Rattle.sg_classes.proofs.TableLemmas.{contains-natural}
 use Rattle.sg_apery.proofs.table.Table.contains_natural.Goals as goal
 
 pub returns : goal.returns

@@ -1,6 +1,6 @@
 use Rattle.std.proofs.Common.{subst}
-use Rattle.sg_apery.specs.Table.{IsMinimalTable}
-use Rattle.sg_apery.proofs.TableLemmas.{entry-read}
+use Rattle.sg_classes.specs.Table.{IsMinimalTable}
+use Rattle.sg_apery.proofs.ReadLemmas.{entry-read}
 use Rattle.sg_apery.proofs.table.Table.entry.Goals as goal
 
 pub returns-clause-entry : goal.returns-clause-entry

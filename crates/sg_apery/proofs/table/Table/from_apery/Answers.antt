@@ -1,8 +1,8 @@
 use Rattle.std.proofs.lemmas.Result.{IfOk-weaker}
 use Rattle.sg_defs.specs.Membership.{Generates}
-use Rattle.sg_apery.specs.Classes.{IsAboveEntry}
-use Rattle.sg_apery.specs.Table.{IsAperyTable}
-use Rattle.sg_apery.proofs.KunzLemmas.{kunz-generated_table}
+use Rattle.sg_classes.specs.Classes.{IsAboveEntry}
+use Rattle.sg_classes.specs.Table.{IsAperyTable}
+use Rattle.sg_classes.proofs.KunzLemmas.{kunz-generated_table}
 use Rattle.sg_apery.proofs.table.Table.from_apery.Goals as goal
 
 pub returns-clause-apery : goal.returns-clause-apery

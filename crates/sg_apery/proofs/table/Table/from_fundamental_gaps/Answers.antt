@@ -3,10 +3,13 @@ use Rattle.std.specs.Prelude.{Contains}
 use Rattle.std.proofs.lemmas.Result.{IfOk-weaker, IfErr-weaker}
 use Rattle.sg_defs.specs.Listings.{Lists}
 use Rattle.sg_defs.specs.Membership.{Generates}
-use Rattle.sg_apery.specs.Conditions.{AreGapsRefused, IsOutside}
-use Rattle.sg_apery.specs.Fundamental.{AreFundamentalRefused, DividesAnEntry, DividesNone}
-use Rattle.sg_apery.proofs.DerivedLemmas.{generates-iff}
-use Rattle.sg_apery.proofs.FundamentalLemmas.{fundamental-faults, not_true, outside-divides, zero-divides, zero-fundamental}
+use Rattle.sg_classes.proofs.EntryLemmas.{generates-iff}
+use Rattle.sg_small.specs.Sets.{IsOutside}
+use Rattle.sg_small.specs.Fundamental.{DividesAnEntry, DividesNone}
+use Rattle.sg_small.proofs.FundamentalLemmas.{not_true, zero-divides}
+use Rattle.sg_apery.specs.Conditions.{AreGapsRefused}
+use Rattle.sg_apery.specs.Fundamental.{AreFundamentalRefused}
+use Rattle.sg_apery.proofs.FundamentalLemmas.{fundamental-faults, outside-divides, zero-fundamental}
 use Rattle.sg_apery.proofs.table.Table.from_fundamental_gaps.Goals as goal
 
 -- the divisors, by an equation

@@ -1,10 +1,11 @@
 use Rattle.std.proofs.Common.{◌≡◌, Bool, true, false, refl, sym, subst}
 use Rattle.std.proofs.lemmas.Result.{IfOk-weaker, IfErr-weaker}
 use Rattle.sg_defs.specs.Membership.{Generates}
-use Rattle.sg_apery.specs.Conditions.{AreGapsRefused, IsOutside}
-use Rattle.sg_apery.proofs.DerivedLemmas.{generates-iff}
+use Rattle.sg_classes.proofs.EntryLemmas.{generates-iff}
+use Rattle.sg_small.specs.Sets.{IsOutside}
+use Rattle.sg_apery.specs.Conditions.{AreGapsRefused}
 use Rattle.sg_apery.proofs.GapLemmas.{gaps_refused-same, outside-same, zero-gap}
-use Rattle.sg_apery.proofs.TrimLemmas.{keeps-sorted, only-sorted}
+use Rattle.sg_apery.proofs.SizeLemmas.{keeps-sorted, only-sorted}
 use Rattle.sg_apery.proofs.table.Table.from_gaps.Goals as goal
 
 -- true where it is false

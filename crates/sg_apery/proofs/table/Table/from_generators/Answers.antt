@@ -2,8 +2,9 @@ use Rattle.std.proofs.Common.{◌≡◌, ℕ, List, sym, subst}
 use Rattle.std.specs.Prelude.{Contains}
 use Rattle.std.proofs.lemmas.Result.{IfOk-weaker, IfErr-weaker, on_ok_weaker}
 use Rattle.sg_defs.specs.Membership.{IsMember, Generates}
+use Rattle.sg_classes.proofs.EntryLemmas.{generates-same}
 use Rattle.sg_apery.specs.Generators.{AreRefused}
-use Rattle.sg_apery.proofs.EntryLemmas.{generates-same, accepted-same, refused-same}
+use Rattle.sg_apery.proofs.GivenLemmas.{accepted-same, refused-same}
 use Rattle.sg_apery.proofs.table.Table.from_generators.Goals as goal
 
 -- the sorted list holds what was given, and nothing else

@@ -1,9 +1,10 @@
 use Rattle.std.proofs.Common.{refl}
 use Rattle.std.proofs.lemmas.Result.{IfOk-weaker, IfErr-weaker}
 use Rattle.sg_defs.specs.Membership.{Generates}
-use Rattle.sg_apery.specs.Conditions.{AreSmallAccepted, AreSmallRefused, IsClosedRefused, IsClosedSet, IsInSmall}
-use Rattle.sg_apery.proofs.DerivedLemmas.{generates-iff}
-use Rattle.sg_apery.proofs.TrimLemmas.{ascending-small, closed-iff, entries-same, keeps-sorted, only-sorted, small-refused}
+use Rattle.sg_classes.proofs.EntryLemmas.{generates-iff}
+use Rattle.sg_small.specs.Sets.{IsClosedSet, IsInSmall}
+use Rattle.sg_apery.specs.Conditions.{AreSmallAccepted, AreSmallRefused, IsClosedRefused}
+use Rattle.sg_apery.proofs.SizeLemmas.{ascending-small, closed-iff, entries-same, keeps-sorted, only-sorted, small-refused}
 use Rattle.sg_apery.proofs.table.Table.from_small_elements.Goals as goal
 
 pub from_ascending-requires : goal.from_ascending-requires

@@ -1,8 +1,10 @@
 use Rattle.std.proofs.lemmas.Result.{IfOk-weaker, IfErr-weaker}
 use Rattle.sg_defs.specs.Membership.{Generates}
-use Rattle.sg_apery.specs.Modular.{IsModular, IsModularRefused, IsProportional, IsProportionalRefused}
-use Rattle.sg_apery.proofs.DerivedLemmas.{generates-iff}
-use Rattle.sg_apery.proofs.ModularLemmas.{modular-faults, modular-proportional}
+use Rattle.sg_classes.proofs.EntryLemmas.{generates-iff}
+use Rattle.sg_small.specs.Modular.{IsModular, IsProportional}
+use Rattle.sg_small.proofs.ModularLemmas.{modular-proportional}
+use Rattle.sg_apery.specs.Modular.{IsModularRefused, IsProportionalRefused}
+use Rattle.sg_apery.proofs.ModularLemmas.{modular-faults}
 use Rattle.sg_apery.proofs.table.Table.modular.Goals as goal
 
 pub returns-clause-generated : goal.returns-clause-generated

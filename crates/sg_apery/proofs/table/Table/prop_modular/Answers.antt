@@ -1,12 +1,14 @@
 use Rattle.std.proofs.Common.{◌≡◌, ℕ, ◌↔◌, List, sym, subst, arith}
 use Rattle.std.proofs.lemmas.Result.{IfOk-weaker, IfErr-weaker}
 use Rattle.sg_defs.specs.Membership.{Generates}
-use Rattle.sg_apery.specs.Conditions.{IsInSmall}
+use Rattle.sg_classes.proofs.EntryLemmas.{generates-iff}
+use Rattle.sg_small.specs.Sets.{IsInSmall}
+use Rattle.sg_small.specs.Modular.{AreModular, IsProportional}
+use Rattle.sg_small.proofs.ModularLemmas.{proportional-sums}
 use Rattle.sg_apery.specs.Fit.{IsSizeFault}
-use Rattle.sg_apery.specs.Modular.{AreModular, IsProportional, IsProportionalRefused}
-use Rattle.sg_apery.proofs.DerivedLemmas.{generates-iff}
-use Rattle.sg_apery.proofs.ModularLemmas.{proportional-faults, proportional-sums}
-use Rattle.sg_apery.proofs.TrimLemmas.{closed-iff}
+use Rattle.sg_apery.specs.Modular.{IsProportionalRefused}
+use Rattle.sg_apery.proofs.ModularLemmas.{proportional-faults}
+use Rattle.sg_apery.proofs.SizeLemmas.{closed-iff}
 use Rattle.sg_apery.proofs.table.Table.prop_modular.Goals as goal
 
 -- the condition by the entries of the list

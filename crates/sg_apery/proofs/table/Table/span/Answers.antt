@@ -1,6 +1,6 @@
 use Rattle.std.proofs.Common.{◌≡◌, ◌-◌, length, get_or, ap, subst, ◌∙◌}
-use Rattle.sg_apery.specs.Entries.{IsGreatest}
-use Rattle.sg_apery.specs.Table.{IsMinimalTable}
+use Rattle.sg_classes.specs.Entries.{IsGreatest}
+use Rattle.sg_classes.specs.Table.{IsMinimalTable}
 use Rattle.sg_apery.proofs.SpanLemmas.{span-from_greatest}
 use Rattle.sg_apery.proofs.table.Table.span.Goals as goal
 

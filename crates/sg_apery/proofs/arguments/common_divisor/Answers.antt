@@ -1,5 +1,0 @@
-use Rattle.sg_apery.proofs.ArgumentLemmas.{divisor-more}
-use Rattle.sg_apery.proofs.arguments.common_divisor.Goals as goal
-
-pub loop-entry-preserved : goal.loop-entry-preserved
-loop-entry-preserved c d = divisor-more c.args.entries.now c.loop-entry.entry-index c.loop-entry.divisor c.gcd-divisor.result d c.gcd-divisor.ensures (c.loop-entry.invariant d)

@@ -1,5 +1,0 @@
-use Rattle.sg_apery.specs.Small.{IsComplement}
-use Rattle.sg_apery.proofs.gaps.complement.Given as goal
-
-abbrev pub invariant-loop-n : goal.invariant-loop-n
-invariant-loop-n l = IsComplement l.gaps l.list.items l.next l.n

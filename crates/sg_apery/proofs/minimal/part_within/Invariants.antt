@@ -1,6 +1,0 @@
-use Rattle.sg_apery.specs.Minimal.{IsPartOf}
-use Rattle.sg_apery.proofs.minimal.part_within.Given as goal
-
--- the part of the entries so far
-abbrev pub invariant-loop-entry : goal.invariant-loop-entry
-invariant-loop-entry l = IsPartOf l.table l.entries l.part l.entry-index

@@ -1,9 +1,0 @@
-use Rattle.std.proofs.Common.{sum}
-use Rattle.sg_apery.specs.Sums.{IsLowered}
-use Rattle.sg_apery.proofs.sums.lower_fully.Given as goal
-
-abbrev pub invariant-loop : goal.invariant-loop
-invariant-loop l = IsLowered l.fn.least l.least
-
-abbrev pub decreases-loop : goal.decreases-loop
-decreases-loop l = sum l.least

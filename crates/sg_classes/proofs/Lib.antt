@@ -1,0 +1,12 @@
+pub mod AperyLemmas
+pub mod ArgumentLemmas
+pub mod BoundLemmas
+pub mod EntryLemmas
+pub mod ExistsLemmas
+pub mod FitLemmas
+pub mod GeneratorLemmas
+pub mod KunzLemmas
+pub mod LoweredLemmas
+pub mod OneListLemmas
+pub mod ResidueLemmas
+pub mod TableLemmas

@@ -1,0 +1,5 @@
+pub mod Classes
+pub mod Entries
+pub mod Fit
+pub mod Laws
+pub mod Table

@@ -1,0 +1,4 @@
+pub mod Fundamental
+pub mod Modular
+pub mod Sets
+pub mod Small

@@ -1,0 +1,4 @@
+pub mod Closed
+pub mod Minimal
+pub mod Relaxation
+pub mod Sums
