@@ -1,0 +1,5 @@
+pub mod AscendingLemmas
+pub mod BoundLemmas
+pub mod ElasticityLemmas
+pub mod StepLemmas
+pub mod GreedyLemmas

@@ -1,0 +1,19 @@
+//! Each call once, with ample memory.
+
+use crate::{delta_of, elasticity, greatest_factorization};
+use sg_apery::Table;
+use sg_nat::{Nats, Ratio};
+use std::test::Fail;
+
+#[test]
+fn boxes_of_six_nine_and_twenty(rt: HostRuntime) -> Result<(), Fail> {
+    let alloc = rt.alloc();
+    let t = Table::from_generators(alloc, &[6, 9, 20])?;
+    assert_eq!(rt; elasticity(&t), Ratio { num: 10, den: 3 });
+    let greatest = greatest_factorization(alloc, &t, 60)?.expect(&rt, "an element");
+    assert_eq!(rt; greatest.as_slice(), [10, 0, 0].as_slice());
+    assert!(rt; greatest_factorization(alloc, &t, 43)?.is_none());
+    let lengths = Nats::from_slice(alloc, &[3, 7, 8, 9, 10])?;
+    assert_eq!(rt; delta_of(alloc, &lengths)?.as_slice(), [1, 4].as_slice());
+    Ok(())
+}
