@@ -6,3 +6,4 @@ pub mod Holding
 pub mod Finding
 pub mod AnyCutting
 pub mod Reading
+pub mod Searching

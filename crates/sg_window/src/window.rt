@@ -6,6 +6,7 @@ ghost use Rattle.sg_cut.specs.declared.limits.TheConstants.{SCRIPT_LIMIT};
 ghost use Rattle.sg_io.specs.Faults.{HasCause};
 ghost use Rattle.sg_window.specs.Comments.{ends_in_comment};
 ghost use Rattle.sg_window.specs.Finds.{Finds};
+ghost use Rattle.sg_window.specs.Searched.{StaysOpen};
 ghost use Rattle.sg_window.specs.Window.{Fills, HasRoom, Holds, fresh, passed, skipped, with_text};
 
 use crate::answers::{Cut, Filled};
@@ -23,18 +24,22 @@ pub struct Window {
     feeds: u64,
     taken: u64,
     ended: bool,
+    /// How many bytes of what is held behind the text are known to hold no end of the statement that begins there; 0
+    /// where none is known to begin there.
+    searched: usize,
 }
 
 impl Model for Window {
     ghost use Rattle.std.specs.Prelude.{◌+◌, ◌≤◌, length};
     ghost use Rattle.sg_cut.specs.declared.limits.TheConstants.{SCRIPT_LIMIT};
+    ghost use Rattle.sg_window.specs.Searched.{IsSearched};
     ghost use Rattle.sg_window.specs.Window.{State};
 
     ghost Value = { State };
 
     ghost view = { λ w. record { text = w.held.text; rest = w.held.rest; feeds = w.feeds; taken = w.taken; ended = w.ended } };
 
-    ghost invariant = { λ w. (w.feeds + length w.held.rest ≤ w.taken) × (w.taken ≤ SCRIPT_LIMIT) };
+    ghost invariant = { λ w. (w.feeds + length w.held.rest ≤ w.taken) × (w.taken ≤ SCRIPT_LIMIT) × IsSearched w.held.rest w.searched };
 }
 
 impl Window {
@@ -47,6 +52,7 @@ impl Window {
             feeds: 0,
             taken: 0,
             ended: false,
+            searched: 0,
         })
     }
 
@@ -107,6 +113,11 @@ impl Window {
         ensures taken { self.new.taken ≡ self.old.taken }
         ensures ended { self.new.ended ≡ self.old.ended }
     {
+        if self.is_still_open() {
+            self.searched = self.held.rest().len();
+            self.held.skip(0);
+            return Cut::More;
+        }
         match cut(self.held.rest(), true) {
             Piece::Statement { begin, end } => {
                 let line = self.skip(begin);
@@ -121,6 +132,7 @@ impl Window {
             },
             Piece::Unfinished { begin } => {
                 self.skip(begin);
+                self.searched = self.held.rest().len();
                 Cut::More
             }
             Piece::End | Piece::Waiting if self.ended => {
@@ -135,6 +147,21 @@ impl Window {
         }
     }
 
+    /// Whether the statement that is known to be open is so still: what was read since then holds no `;`. So a source
+    /// that gives a byte at a time is not searched anew at each.
+    fn is_still_open(&self) -> bool
+        ensures { result ≡ true → StaysOpen self.now }
+    {
+        if self.ended {
+            return false;
+        }
+        if self.searched == 0 {
+            return false;
+        }
+        let rest = self.held.rest();
+        rest.len() < STATEMENT_LIMIT && !rest[self.searched..].contains(&b';')
+    }
+
     /// Lets the text and so many bytes behind it go, and gives the line of the byte that follows.
     fn skip(&mut self, size: usize) -> u64
         requires { size ≤ length self.old.rest }
@@ -143,6 +170,7 @@ impl Window {
     {
         let (gone, _) = self.held.rest().split_at(size);
         self.feeds += line_feeds(gone);
+        self.searched = 0;
         self.held.skip(size);
         1 + self.feeds
     }
@@ -154,6 +182,7 @@ impl Window {
     {
         let (text, _) = self.held.rest().split_at(size);
         self.feeds += line_feeds(text);
+        self.searched = 0;
         self.held.take(size);
     }
 
@@ -164,6 +193,7 @@ impl Window {
         let rest = self.held.rest();
         let size = rest.len();
         self.feeds += line_feeds(rest);
+        self.searched = 0;
         if ends_in_comment(rest) {
             self.held.keep_sign();
         } else {
