@@ -3,6 +3,7 @@ use Rattle.std.specs.Prelude.{◌≡◌, ◌≤◌, true, false}
 use Rattle.std.proofs.Common.{arith}
 use Rattle.sg_io.specs.Faults.{last_count}
 
+-- a count of none is a number of 64 bits
 pub none_missing : 0 ≤ last_count
 none_missing = omega arith
 

@@ -12,5 +12,6 @@ is_error_stream Error = true
 abbrev pub writes_errors : StdSink → Bool
 writes_errors s = is_error_stream s.stream
 
+-- how often it failed
 abbrev pub fault_count : StdSink → ℕ
 fault_count s = s.faults

@@ -45,6 +45,7 @@ breaks-front (writes o p) vars v v' end t s (inr b) r =
     let f = breaks-front p vars v v' end b.0 r.0 b.2 r.2 in
     (f.0, r.1 ∙ ap (λ x. o ++ x) f.1 ∙ sym (append_assoc o b.0 f.0) ∙ ap (λ x. x ++ f.0) (sym b.1))
 
+-- what is written to one place, part by part
 pub marked-append : (m : Mark) (a b : List ℕ) → marked m (a ++ b) ≡ marked m a ++ marked m b
 marked-append m [] b = refl
 marked-append m (x ∷ a) b = ap (λ r. (m, x) ∷ r) (marked-append m a b)
@@ -116,6 +117,7 @@ first-longer {bytes} {begin} {end} {c} more f = record {
   reads = subst (λ s. IsReadAs s (a_tree c)) (sym (text-append bytes more begin end f.stands)) f.reads;
 }
 
+-- a play that was left was left so over more bytes
 pub left-longer : {bytes : List ℕ} {vars : Vars} {text : List ℕ} (more : List ℕ) → LeftFrom bytes vars text → LeftFrom (bytes ++ more) vars text
 left-longer more before = before
 left-longer more (inside begin end c v f b) = inside begin end c v (first-longer more f) b

@@ -1,17 +1,17 @@
 -- Plays: one outcome, and what more bytes do to it.
-use Rattle.std.proofs.Common.{◌≡◌, ℕ, ◌+◌, ◌≤◌, List, [], ◌++◌, length, take, drop, Bool, false, sym, ap, subst, ◌∙◌, append_assoc}
+use Rattle.std.proofs.Common.{◌≡◌, ℕ, ◌+◌, ◌≤◌, List, [], ◌++◌, length, take, drop, Bool, true, false, refl, sym, ap, subst, ◌∙◌, append_assoc}
 use Rattle.std.specs.Prelude.{IsTrue}
 use Rattle.std.proofs.lemmas.List.{take-append-le}
 use Rattle.sg_cut.specs.Cut.{Cut}
 use Rattle.sg_cut.specs.Lines.{count_of_line_feeds, line_of}
 use Rattle.sg_cut.specs.declared.outcome.Piece.{Piece}
 use Rattle.sg_cut.specs.declared.outcome.Piece.TheVariants.{Statement, TooLong, Unfinished, End, Waiting}
-use Rattle.sg_cut.proofs.Outcomes.{same_outcome, statement-append, too_long-append, text-append, rest-append}
+use Rattle.sg_cut.proofs.Outcomes.{outcome_found, same_outcome, statement-append, too_long-append, text-append, rest-append}
 use Rattle.sg_eval.specs.Vars.{Vars}
 use Rattle.sg_rows.specs.declared.fault.Fault.TheVariants as fault
 use Rattle.sg_play.specs.Record.{Played, refused, waiting, marked, out, after_text, IsFrontOf}
 use Rattle.sg_play.specs.Play.{Turn, stops, goes, ends_at, Takes, PlaysFrom, last, next}
-use Rattle.sg_play.proofs.Turns.{takes-one, takes-same, waits-empty, waiting-waits}
+use Rattle.sg_play.proofs.Turns.{takes-one, takes-same, waits-empty, waits-there, waiting-waits}
 
 false-holds : IsTrue false → ⊥
 false-holds h = cc
@@ -33,6 +33,7 @@ same-turn : (whole : Bool) (bytes : List ℕ) (passed feeds : ℕ) (vars : Vars)
 same-turn whole bytes passed feeds vars a b t u c d p q =
     takes-one a bytes passed feeds vars t u p (subst (λ x. Takes x bytes passed feeds vars u) (same_outcome bytes whole b a d c) q)
 
+-- some bytes are played in at most one way
 pub one-play : {whole : Bool} {bytes : List ℕ} {passed feeds : ℕ} {vars : Vars} {p q : Played} → PlaysFrom whole bytes passed feeds vars p → PlaysFrom whole bytes passed feeds vars q → p ≡ q
 one-play {whole} {bytes} {passed} {feeds} {vars} (last a c h) (last b d k) =
     let e = same-turn whole bytes passed feeds vars a b _ _ c d h k in cc
@@ -48,6 +49,17 @@ one-play {whole} {bytes} {passed} {feeds} {vars} (next {p = tail} begin end text
     let shown : text ≡ text' = cc in
     let others = one-play rest (same-rest whole bytes passed feeds end end' vars' vars'' tail' stop known rest') in
     ap (λ b. after_text b tail) shown ∙ ap (after_text text') others
+
+-- bytes that are all that there are do not wait
+not-waiting : (bytes : List ℕ) (piece : Piece) → piece ≡ Waiting → Cut bytes true piece → ⊥
+not-waiting bytes piece e c =
+    let found = outcome_found bytes true in
+    found.2 refl (same_outcome bytes true found.0 Waiting found.1 (subst (Cut bytes true) e c))
+
+-- nor does their play
+pub whole-ends : {bytes : List ℕ} {passed feeds : ℕ} {vars : Vars} {p : Played} → PlaysFrom true bytes passed feeds vars p → p.ending ≡ waiting → ⊥
+whole-ends {bytes} {passed} {feeds} {vars} {p} (last piece c h) w = not-waiting bytes piece (waits-there piece bytes passed feeds vars p h w) c
+whole-ends (next begin end text vars' c h rest) w = whole-ends rest w
 
 -- a statement comes to the same over more bytes
 statement-more : (begin end : ℕ) (bytes more : List ℕ) (passed feeds : ℕ) (vars : Vars) (t : Turn) → Cut bytes false (Statement begin end) →

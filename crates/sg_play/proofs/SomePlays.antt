@@ -1,5 +1,5 @@
 -- Some bytes are played to an end: a first piece is there, it comes to a turn, and behind a statement fewer bytes are left.
-use Rattle.std.proofs.Common.{◌≡◌, ℕ, zero, suc, ◌+◌, ◌-◌, ◌<◌, ◌≤◌, List, [], length, take, drop, Bool, Result, Ok, Err, refl, length-drop, arith}
+use Rattle.std.proofs.Common.{ℕ, zero, suc, ◌+◌, ◌<◌, List, [], length, take, drop, Bool, Result, Ok, Err, refl, length-drop, arith}
 use Rattle.std.specs.Prelude.{slice_range, ⊤}
 use Rattle.sg_cut.specs.Cut.{Cut}
 use Rattle.sg_cut.specs.Lines.{count_of_line_feeds, line_of}
@@ -12,7 +12,7 @@ use Rattle.sg_script.specs.Outcome.{Outcome, a_tree, too_deep, no_statement}
 use Rattle.sg_script.proofs.SomeOutcome.{some-outcome}
 use Rattle.sg_eval.specs.Vars.{Vars}
 use Rattle.sg_eval.specs.Lawful.{AreLawfulVars}
-use Rattle.sg_eval.specs.Statements.{Going, on, ended, whole as meaning}
+use Rattle.sg_eval.specs.Statements.{Going, on, ended}
 use Rattle.sg_eval.proofs.LawfulStatements.{statement_some}
 use Rattle.sg_play.specs.Record.{Played, done, refused, waiting, after_text}
 use Rattle.sg_play.specs.Play.{Turn, stops, goes, ends_at, ends_between, executed, Performs, Takes, PlaysFrom, last, next}
@@ -71,5 +71,6 @@ plays_below whole (suc k) bytes passed feeds vars short l =
     let c = outcome_found bytes whole in
     from_piece whole bytes passed feeds vars l (λ rest passed' feeds' vars' less h. plays_below whole k rest passed' feeds' vars' (omega arith) h) c.0 c.1
 
+-- any bytes are played, from lawful variables on
 pub plays_some : (whole : Bool) (bytes : List ℕ) (passed feeds : ℕ) (vars : Vars) → AreLawfulVars vars → (p : Played) × PlaysFrom whole bytes passed feeds vars p
 plays_some whole bytes passed feeds vars l = plays_below whole (length bytes + 1) bytes passed feeds vars (omega arith) l

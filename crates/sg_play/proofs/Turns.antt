@@ -1,5 +1,5 @@
 -- One turn of a play: what it comes to, and that what follows the bytes does not matter to a statement.
-use Rattle.std.proofs.Common.{◌≡◌, ℕ, ◌+◌, List, [], Result, Ok, Err, Some, None, sym, ap, subst, ◌∙◌}
+use Rattle.std.proofs.Common.{◌≡◌, ℕ, ◌+◌, List, [], Result, Ok, Err, Some, None, refl, sym, ap, subst, ◌∙◌}
 use Rattle.std.specs.Prelude.{slice_range}
 use Rattle.sg_cut.specs.Lines.{line_of}
 use Rattle.sg_cut.specs.declared.outcome.Piece.{Piece}
@@ -69,6 +69,14 @@ waits-empty (TooLong begin) bytes passed feeds vars p h w = absurd (stops-end p 
 waits-empty (Unfinished begin) bytes passed feeds vars p h w = absurd (stops-end p [] (refused fault.Syntax (feeds + line_of bytes begin)) (passed + begin) (λ e. cc) h w)
 waits-empty End bytes passed feeds vars p h w = let q : p ≡ record { written = []; ending = done; place = None } = cc in ap (λ x. x.written) q
 waits-empty Waiting bytes passed feeds vars p h w = let q : p ≡ record { written = []; ending = waiting; place = None } = cc in ap (λ x. x.written) q
+
+-- a play that is stopped at its first piece and waits is stopped where only more bytes are waited for
+pub waits-there : (piece : Piece) (bytes : List ℕ) (passed feeds : ℕ) (vars : Vars) (p : Played) → Takes piece bytes passed feeds vars (stops p) → p.ending ≡ waiting → piece ≡ Waiting
+waits-there (Statement begin end) bytes passed feeds vars p h w = absurd (performs-ends h.0 vars (passed + begin) (feeds + line_of bytes begin) p h.2 w)
+waits-there (TooLong begin) bytes passed feeds vars p h w = absurd (stops-end p [] (refused fault.TooLong (feeds + line_of bytes begin)) (passed + begin) (λ e. cc) h w)
+waits-there (Unfinished begin) bytes passed feeds vars p h w = absurd (stops-end p [] (refused fault.Syntax (feeds + line_of bytes begin)) (passed + begin) (λ e. cc) h w)
+waits-there End bytes passed feeds vars p h w = absurd (let q : p ≡ record { written = []; ending = done; place = None } = cc in let e : done ≡ waiting = sym (ap (λ x. x.ending) q) ∙ w in cc)
+waits-there Waiting bytes passed feeds vars p h w = refl
 
 -- where only more bytes are waited for, the play waits
 pub waiting-waits : (bytes : List ℕ) (passed feeds : ℕ) (vars : Vars) (p : Played) → Takes Waiting bytes passed feeds vars (stops p) → p.ending ≡ waiting

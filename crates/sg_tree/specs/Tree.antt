@@ -59,18 +59,22 @@ abbrev pub trees : List Tree → Trees
 trees [] = no_trees
 trees (t ∷ ts) = tree t (trees ts)
 
+-- arguments, one after the other
 abbrev pub arguments : List Argument → Arguments
 arguments [] = no_arguments
 arguments (a ∷ others) = argument a (arguments others)
 
+-- operators and their operands
 abbrev pub links : List (Op × Tree) → Links
 links [] = no_links
 links (l ∷ ls) = link l.0 l.1 (links ls)
 
+-- statements
 abbrev pub block : List Code → Block
 block [] = skip
 block (c ∷ cs) = code c (block cs)
 
+-- arms of a choice
 abbrev pub arms : List (Tree × Block) → Arms
 arms [] = no_arms
 arms (a ∷ others) = arm a.0 a.1 (arms others)

@@ -36,12 +36,15 @@ tree_of = fold-Expr Argument Tree argument_step tree_step
 abbrev pub argument_of : Arg → Argument
 argument_of = fold-Arg Argument Tree argument_step tree_step
 
+-- what entries or indices stand for
 abbrev pub trees_of : List Expr → Trees
 trees_of es = trees (map tree_of es)
 
+-- what arguments stand for
 abbrev pub arguments_of : List Arg → Arguments
 arguments_of given = arguments (map argument_of given)
 
+-- what operators and their operands stand for
 abbrev pub links_of : List (Op × Expr) → Links
 links_of ls = links (map (λ l. (l.0, tree_of l.1)) ls)
 
@@ -57,8 +60,10 @@ code_step (Stmt-F.Do e) = perform (tree_of e)
 abbrev pub code_of : Stmt → Code
 code_of = fold-Stmt Code code_step
 
+-- what a block stands for
 abbrev pub block_of : List Stmt → Block
 block_of ss = block (map code_of ss)
 
+-- what the arms of a choice stand for
 abbrev pub arms_of : List (Expr × Vec Stmt Global) → Arms
 arms_of guarded = arms (map (λ a. (tree_of a.0, block_of a.1.items)) guarded)

@@ -12,11 +12,13 @@ use Rattle.sgps_cli.specs.declared.ending.Cause.{Cause}
 use Rattle.sgps_cli.specs.declared.ending.Cause.TheVariants as cause
 
 module _ (c : Cause) (e : Extent) (bytes text : List ℕ) where
+  -- a play that came to a verdict concludes
   pub concluded-so : (r : Result Verdict Stopped) (w : Bool) (v : Verdict) → r ≡ Ok v → w ≡ is_whole e → c ≡ cause_for e v → Plays r bytes w text → Concludes c e bytes text
   concluded-so r w v is f g p =
       let q : Plays (Ok v) bytes (is_whole e) text = subst (λ x. Plays x bytes (is_whole e) text) is (subst (λ x. Plays r bytes x text) f p) in
       concluded v q.0 g q.1 q.2
 
+  -- so does one that was left
   pub left-so : (r : Result Verdict Stopped) (w : Bool) (s : Stopped) → r ≡ Err s → (c ≡ cause.WriteFault) ⊎ (c ≡ cause.Memory) → Plays r bytes w text → Concludes c e bytes text
   left-so r w s is f p = left f (subst (λ x. Plays x bytes w text) is p)
 

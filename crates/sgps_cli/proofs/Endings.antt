@@ -8,12 +8,12 @@ use Rattle.sg_io.specs.Inputs.{Input, input_named}
 use Rattle.sg_rows.specs.declared.fault.Fault.{Fault}
 use Rattle.sg_play.specs.Record.{Played, Ending, marked, out, err, done, refused, waiting}
 use Rattle.sg_play.proofs.Plays.{one-play}
-use Rattle.sgps_cli.specs.Causes.{line_of}
+use Rattle.sgps_cli.specs.Causes.{last_line}
 use Rattle.sgps_cli.specs.Settings.{Wanted}
 use Rattle.sgps_cli.specs.Input.{HasInput, IsInput}
 use Rattle.sgps_cli.specs.Settled.{Settled}
-use Rattle.sgps_cli.specs.Reports.{IsReport, told, failed, no_memory, IsFrontOfLine}
-use Rattle.sgps_cli.specs.Ends.{Seen, Taken, Wrote, Settles, out_bytes, err_bytes, Comes, IsEarly, telling, RunsOut, SinkFaults, FailsToWrite, Ends, Closes, closed, stopped, PlaysToEnd, EndsWell}
+use Rattle.sgps_cli.specs.Reports.{IsReport, told, failed, no_memory, IsFrontOfLastLine}
+use Rattle.sgps_cli.specs.Ends.{Seen, Sinks, Wrote, Settles, out_bytes, err_bytes, Comes, IsEarly, telling, RunsOut, SinkFaults, FailsToWrite, Ends, Closes, closed, stopped, PlaysToEnd, EndsWell}
 use Rattle.sgps_cli.specs.declared.ending.Cause.{Cause}
 use Rattle.sgps_cli.specs.declared.ending.Cause.TheVariants as cause
 
@@ -35,7 +35,7 @@ err-of-both [] b = err-of-err b
 err-of-both (x ∷ a) b = err-of-both a b
 
 -- what the two sinks gained is one record
-wrote : (old new : Taken) (text said : List ℕ) → new.on_out ≡ append_known old.on_out text → new.on_err ≡ append_known old.on_err said → Wrote old new (marked out text ++ marked err said)
+wrote : (old new : Sinks) (text said : List ℕ) → new.on_out ≡ append_known old.on_out text → new.on_err ≡ append_known old.on_err said → Wrote old new (marked out text ++ marked err said)
 wrote old new text said o e = record {
   out_gained = o ∙ ap (append_known old.on_out) (sym (out-of-both text said));
   err_gained = e ∙ ap (append_known old.on_err) (sym (err-of-both text said));
@@ -46,9 +46,9 @@ front-of-none : (a b : List ℕ) → [] ≡ a ++ b → a ≡ []
 front-of-none [] b e = refl
 front-of-none (x ∷ a) b e = absurd (cc)
 
-module _ (seen : Seen) (old new : Taken) (f : SinkFaults) (text said : List ℕ) (on_out : new.on_out ≡ append_known old.on_out text) (on_err : new.on_err ≡ append_known old.on_err said) where
+module _ (seen : Seen) (old new : Sinks) (f : SinkFaults) (text said : List ℕ) (on_out : new.on_out ≡ append_known old.on_out text) (on_err : new.on_err ≡ append_known old.on_err said) where
   -- the line of a cause was written whole
-  told-whole : (c : Cause) → Comes c seen (marked out text) → said ≡ line_of c → Ends c seen old new f
+  told-whole : (c : Cause) → Comes c seen (marked out text) → said ≡ last_line c → Ends c seen old new f
   told-whole cause.Ok h e = (marked out text, h, subst (λ s. Wrote old new (marked out text ++ marked err s)) e (wrote old new text said on_out on_err))
   told-whole cause.Usage h e = (marked out text, h, subst (λ s. Wrote old new (marked out text ++ marked err s)) e (wrote old new text said on_out on_err))
   told-whole cause.ReadFault h e = (marked out text, h, subst (λ s. Wrote old new (marked out text ++ marked err s)) e (wrote old new text said on_out on_err))
@@ -66,33 +66,33 @@ module _ (seen : Seen) (old new : Taken) (f : SinkFaults) (text said : List ℕ)
   stopped-by-out early none rose = (rose, inl (text, [], early, inl refl, subst (λ s. Wrote old new (marked out text ++ marked err s)) none (wrote old new text said on_out on_err)))
 
   -- a run that had written this text ran out of memory, and wrote this front of that line
-  no-memory-then : IsEarly seen text [] → IsFrontOfLine cause.Memory said → RunsOut seen old new
+  no-memory-then : IsEarly seen text [] → IsFrontOfLastLine cause.Memory said → RunsOut seen old new
   no-memory-then early front = (text, [], said, front.0, early, front.1, wrote old new text said on_out on_err)
 
   -- a run that had written this text, and this front of a line, ran out of memory
   no-memory-there : IsEarly seen text said → RunsOut seen old new
-  no-memory-there early = (text, said, [], line_of cause.Memory, early, refl, subst (λ s. Wrote old new (marked out text ++ marked err s)) (sym (append-nil said)) (wrote old new text said on_out on_err))
+  no-memory-there early = (text, said, [], last_line cause.Memory, early, refl, subst (λ s. Wrote old new (marked out text ++ marked err s)) (sym (append-nil said)) (wrote old new text said on_out on_err))
 
   reported : (c d : Cause) → Closes c seen text → IsReport c said f.err_before f.err_after d → (c ≡ cause.WriteFault → Rose f.out_before f.out_after) → Ends d seen old new f
   reported c d (closed h) (told t) rose = subst (λ x. Ends x seen old new f) (sym t.same) (told-whole c h t.whole)
   reported c d (closed h) (failed e front risen) rose = subst (λ x. Ends x seen old new f) (sym e) (stopped-by-err (telling c front.0 h front.1) risen)
   reported c d (closed h) (no_memory e front) rose = subst (λ x. Ends x seen old new f) (sym e) (no-memory-there (telling c front.0 h front.1))
   reported c d (stopped (inl w) early) (told t) rose =
-      subst (λ x. Ends x seen old new f) (sym (t.same ∙ w)) (stopped-by-out early (t.whole ∙ ap line_of w) (inl (rose w)))
+      subst (λ x. Ends x seen old new f) (sym (t.same ∙ w)) (stopped-by-out early (t.whole ∙ ap last_line w) (inl (rose w)))
   reported c d (stopped (inr m) early) (told t) rose =
-      subst (λ x. Ends x seen old new f) (sym (t.same ∙ m)) (no-memory-then early ([], sym (ap line_of m) ∙ sym t.whole ∙ sym (append-nil said)))
+      subst (λ x. Ends x seen old new f) (sym (t.same ∙ m)) (no-memory-then early ([], sym (ap last_line m) ∙ sym t.whole ∙ sym (append-nil said)))
   reported c d (stopped (inl w) early) (failed e front risen) rose =
-      subst (λ x. Ends x seen old new f) (sym e) (stopped-by-out early (front-of-none said front.0 (sym (ap line_of w) ∙ front.1)) (inr risen))
+      subst (λ x. Ends x seen old new f) (sym e) (stopped-by-out early (front-of-none said front.0 (sym (ap last_line w) ∙ front.1)) (inr risen))
   reported c d (stopped (inr m) early) (failed e front risen) rose =
-      subst (λ x. Ends x seen old new f) (sym e) (inr risen, inr (risen, no-memory-then early (front.0, sym (ap line_of m) ∙ front.1)))
+      subst (λ x. Ends x seen old new f) (sym e) (inr risen, inr (risen, no-memory-then early (front.0, sym (ap last_line m) ∙ front.1)))
   reported c d (stopped (inl w) early) (no_memory e front) rose =
-      let none = front-of-none said front.0 (sym (ap line_of w) ∙ front.1) in
+      let none = front-of-none said front.0 (sym (ap last_line w) ∙ front.1) in
       subst (λ x. Ends x seen old new f) (sym e) (no-memory-there (subst (λ s. IsEarly seen text s) (sym none) early))
   reported c d (stopped (inr m) early) (no_memory e front) rose =
-      subst (λ x. Ends x seen old new f) (sym e) (no-memory-then early (front.0, sym (ap line_of m) ∙ front.1))
+      subst (λ x. Ends x seen old new f) (sym e) (no-memory-then early (front.0, sym (ap last_line m) ∙ front.1))
 
 -- how a run ends, whatever came of its last line
-pub run-ends : (c d : Cause) (seen : Seen) (old new : Taken) (f : SinkFaults) (text said : List ℕ) → new.on_out ≡ append_known old.on_out text → new.on_err ≡ append_known old.on_err said →
+pub run-ends : (c d : Cause) (seen : Seen) (old new : Sinks) (f : SinkFaults) (text said : List ℕ) → new.on_out ≡ append_known old.on_out text → new.on_err ≡ append_known old.on_err said →
     Closes c seen text → IsReport c said f.err_before f.err_after d → (c ≡ cause.WriteFault → Rose f.out_before f.out_after) → Ends d seen old new f
 run-ends c d seen old new f text said o e h r rose = reported seen old new f text said o e c d h r rose
 
@@ -124,7 +124,7 @@ waiting-not-done : {P : Type 0} (e : Ending) → e ≡ waiting → e ≡ done �
 waiting-not-done e h k = absurd (let x : waiting ≡ done = sym h ∙ k in cc)
 
 -- a script that is played to its end ends Ok, or for want of memory, where nothing failed
-pub ends-well : (c : Cause) (seen : Seen) (old new : Taken) (f : SinkFaults) → Ends c seen old new f → PlaysToEnd seen.settings seen.inputs →
+pub ends-well : (c : Cause) (seen : Seen) (old new : Sinks) (f : SinkFaults) → Ends c seen old new f → PlaysToEnd seen.settings seen.inputs →
     (Rose seen.faults_before seen.faults_after → ⊥) → (Rose f.out_before f.out_after → ⊥) → (Rose f.err_before f.err_after → ⊥) → EndsWell c
 ends-well cause.Ok seen old new f h q s o e = inl refl
 ends-well cause.Usage seen old new f h q s o e = none-accepted seen.settings q.wanted h.1.0 q.accepted

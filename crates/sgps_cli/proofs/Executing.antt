@@ -51,14 +51,17 @@ module _ (whole : Bool) (bytes : List ℕ) (feeds : ℕ) (vars vars' : Vars) (te
   left-part begin end s (inl k) = inside begin end k.0 vars' (record { stands = s; reads = k.1 }) k.2
   left-part begin end s (inr e) = subst (λ t. LeftFrom bytes vars t) (sym e) before
 
+  -- a statement was stopped by the sink
   pub write-turn : (begin end : ℕ) (r : Result Flow StepFault) → r ≡ Err fault.Write → StandsAt bytes begin end → Performed r (slice_range bytes begin end) vars vars' text → LeftFrom bytes vars text
   write-turn begin end r e s h = left-part begin end s (subst (λ x. Performed x (slice_range bytes begin end) vars vars' text) e h)
 
+  -- a statement was stopped for want of memory
   pub memory-turn : (begin end : ℕ) (r : Result Flow StepFault) → r ≡ Err fault.Memory → StandsAt bytes begin end → Performed r (slice_range bytes begin end) vars vars' text → LeftFrom bytes vars text
   memory-turn begin end r e s h = left-part begin end s (subst (λ x. Performed x (slice_range bytes begin end) vars vars' text) e h)
 
 -- where no statement stands first, nothing is written
 module _ (whole : Bool) (bytes : List ℕ) (feeds : ℕ) (vars vars' : Vars) where
+  -- the next statement is too long
   pub long-turn : (begin : ℕ) (t : Turn) → t ≡ turn.Stops (verdict.Refused script.TooLong (feeds + line_of bytes begin)) → Cut bytes whole (TooLong begin) → Turns (Ok t) bytes whole feeds vars vars' []
   long-turn begin t is d = subst (λ x. Turns (Ok x) bytes whole feeds vars vars' []) (sym is) (λ passed. (
     record { written = []; ending = refused script.TooLong (feeds + line_of bytes begin); place = Some (passed + begin) },
@@ -66,6 +69,7 @@ module _ (whole : Bool) (bytes : List ℕ) (feeds : ℕ) (vars vars' : Vars) whe
     record { ends = refl; wrote = refl },
   ))
 
+  -- the next statement has no end
   pub unfinished-turn : (begin : ℕ) (t : Turn) → t ≡ turn.Stops (verdict.Refused script.Syntax (feeds + line_of bytes begin)) → Cut bytes whole (Unfinished begin) → Turns (Ok t) bytes whole feeds vars vars' []
   unfinished-turn begin t is d = subst (λ x. Turns (Ok x) bytes whole feeds vars vars' []) (sym is) (λ passed. (
     record { written = []; ending = refused script.Syntax (feeds + line_of bytes begin); place = Some (passed + begin) },
@@ -73,8 +77,10 @@ module _ (whole : Bool) (bytes : List ℕ) (feeds : ℕ) (vars vars' : Vars) whe
     record { ends = refl; wrote = refl },
   ))
 
+  -- nothing but blanks and comments is left
   pub end-turn : Cut bytes whole End → Turns (Ok (turn.Stops verdict.Done)) bytes whole feeds vars vars' []
   end-turn d passed = (record { written = []; ending = done; place = None }, last End d refl, record { ends = refl; wrote = refl })
 
+  -- more bytes are waited for
   pub waiting-turn : Cut bytes whole Waiting → Turns (Ok (turn.Stops verdict.Waiting)) bytes whole feeds vars vars' []
   waiting-turn d passed = (record { written = []; ending = waiting; place = None }, last Waiting d refl, record { ends = refl; wrote = refl })

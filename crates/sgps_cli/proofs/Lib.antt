@@ -4,4 +4,5 @@ pub mod Executing
 pub mod Lines
 pub mod Concluding
 pub mod Settling
+pub mod Reaching
 pub mod Endings

@@ -1,11 +1,12 @@
 -- From the bytes that were taken to the whole script.
 use Rattle.std.proofs.Common.{◌≡◌, ℕ, ◌+◌, ◌-◌, ◌<◌, ◌≤◌, List, [], ◌++◌, length, take, true, false, Option, Some, None, Result, Ok, refl, sym, ap, subst, ◌∙◌, inl, inr, arith}
-use Rattle.std.specs.Prelude.{◌⊎◌, nat_lt, is_some, is_err, IfSome, IsSome, OnOk, Err, if◌then◌else◌}
+use Rattle.std.specs.Prelude.{◌⊎◌, nat_lt, is_some, is_err, IfSome, IsSome, OnOk, OnErr, Err, if◌then◌else◌}
 use Rattle.std.specs.Option.{option_and_then, option_map}
 use Rattle.std.specs.Io.KnownBytes.{prepend_known}
 use Rattle.std.proofs.lemmas.Bool.{lt-ltb, le-ltb}
 use Rattle.std.proofs.lemmas.List.{length-append, append-nil, take_all}
 use Rattle.std.proofs.Math.Seq.{take-append-add}
+use Rattle.sg_cut.specs.declared.limits.TheConstants.{SCRIPT_LIMIT}
 use Rattle.sg_io.specs.Faults.{Rose, next_count}
 use Rattle.sg_io.specs.Inputs.{Input, input_named, missing_after}
 use Rattle.sg_rows.specs.declared.fault.Fault.{Fault}
@@ -16,9 +17,9 @@ use Rattle.sg_play.proofs.Plays.{ended-stays}
 use Rattle.sg_play.proofs.Leaving.{left-front, left-longer}
 use Rattle.sgps_cli.specs.Input.{IsInput, IsTaken}
 use Rattle.sgps_cli.specs.Settings.{Wanted}
-use Rattle.sgps_cli.specs.Words.{wanted_of}
-use Rattle.sgps_cli.specs.declared.words.Settings.{Settings}
-use Rattle.sgps_cli.specs.Settled.{Settled, script_limit}
+use Rattle.sgps_cli.specs.Settings.{wanted_of}
+use Rattle.sgps_cli.specs.declared.command_line.Settings.{Settings}
+use Rattle.sgps_cli.specs.Settled.{Settled}
 use Rattle.sgps_cli.specs.Extents.{IsExtent}
 use Rattle.sgps_cli.specs.Playing.{IsOutcome}
 use Rattle.sgps_cli.specs.Concludes.{Concludes, concluded, left, cause_for, is_whole}
@@ -34,14 +35,16 @@ pub record AreTaken (inputs : Option (List Input)) (name now : Option (List ℕ)
   pub rest : List ℕ
   pub input : IsInput inputs name (bytes ++ rest)
   pub over : (now ≡ Some rest) ⊎ (now ≡ None) × (rest ≡ [])
+  pub told : is_some now ≡ is_some inputs
 
+-- what a source tells when it was begun and read
 pub are-taken : (inputs : Option (List Input)) (name first now : Option (List ℕ)) (bytes : List ℕ) → first ≡ option_and_then (input_named name) inputs → is_some first ≡ is_some inputs →
     prepend_known [] first ≡ prepend_known bytes now → AreTaken inputs name now bytes
-are-taken None name first None bytes named told kept = record { rest = []; input = tt; over = inr (refl, refl) }
+are-taken None name first None bytes named told kept = record { rest = []; input = tt; over = inr (refl, refl); told = refl }
 are-taken None name first (Some r) bytes named told kept = absurd (let e : None ≡ Some (bytes ++ r) = sym (ap (prepend_known []) named) ∙ kept in cc)
 are-taken (Some is') name None now bytes named told kept = absurd (let e : false ≡ true = told in cc)
 are-taken (Some is') name (Some xs) None bytes named told kept = absurd (let e : Some xs ≡ None = kept in cc)
-are-taken (Some is') name (Some xs) (Some r) bytes named told kept = record { rest = r; input = sym named ∙ kept; over = inl refl }
+are-taken (Some is') name (Some xs) (Some r) bytes named told kept = record { rest = r; input = sym named ∙ kept; over = inl refl; told = refl }
 
 -- they are what was taken of the input
 pub is-taken : {inputs : Option (List Input)} {name : Option (List ℕ)} (now : Option (List ℕ)) {bytes : List ℕ} → AreTaken inputs name now bytes → IsTaken inputs name now bytes
@@ -80,11 +83,12 @@ module _ (limit : ℕ) (bytes rest : List ℕ) (p : Played) where
   settled-fault l ended d =
       subst (λ b. Play b (nat_lt (length (bytes ++ rest)) limit) p) (sym (cut-off limit bytes rest l)) (ended-stays d (take (limit - length bytes) rest) (nat_lt (length (bytes ++ rest)) limit) ended)
 
-pub settled : (e : Extent) (bytes rest : List ℕ) (now : Option (List ℕ)) (p : Played) → length bytes ≤ script_limit → IsExtent (Ok e) (length bytes) now → (now ≡ Some rest) ⊎ (now ≡ None) × (rest ≡ []) →
+-- what the bytes taken come to is what the whole script comes to, but where a fault held bytes back
+pub settled : (e : Extent) (bytes rest : List ℕ) (now : Option (List ℕ)) (p : Played) → length bytes ≤ SCRIPT_LIMIT → IsExtent (Ok e) (length bytes) now → (now ≡ Some rest) ⊎ (now ≡ None) × (rest ≡ []) →
     Play bytes (is_whole e) p → (p.ending ≡ waiting → e ≡ extent.Fault → ⊥) → Settled (bytes ++ rest) p
-settled extent.Whole bytes rest now p l x o d w = settled-whole script_limit bytes rest p x.0 (nothing-over now rest o x.1) d
-settled extent.Limit bytes rest now p l x o d w = settled-limit script_limit bytes rest p x d
-settled extent.Fault bytes rest now p l x o d w = settled-fault script_limit bytes rest p l (λ h. w h refl) d
+settled extent.Whole bytes rest now p l x o d w = settled-whole SCRIPT_LIMIT bytes rest p x.0 (nothing-over now rest o x.1) d
+settled extent.Limit bytes rest now p l x o d w = settled-limit SCRIPT_LIMIT bytes rest p x d
+settled extent.Fault bytes rest now p l x o d w = settled-fault SCRIPT_LIMIT bytes rest p l (λ h. w h refl) d
 
 -- what was left stands in the whole script too
 left-in-whole : (limit : ℕ) (bytes rest text : List ℕ) → length bytes ≤ limit → IsLeft bytes text → IsLeft (take limit (bytes ++ rest)) text
@@ -96,7 +100,7 @@ pub record IsReached (seen : Seen) (e : Extent) (bytes : List ℕ) : Type 0 wher
   pub accepted : seen.settings ≡ Some wanted
   pub begun : seen.begun ≡ true
   pub taken : AreTaken seen.inputs wanted.file seen.left bytes
-  pub long : length bytes ≤ script_limit
+  pub long : length bytes ≤ SCRIPT_LIMIT
   pub reached : IsExtent (Ok e) (length bytes) seen.left
   pub rose : e ≡ extent.Fault → Rose seen.faults_before seen.faults_after
 
@@ -133,7 +137,7 @@ comes-to seen extent.Fault bytes text verdict.Waiting p r d o = (
 pub closes : (c : Cause) (seen : Seen) (e : Extent) (bytes text : List ℕ) → IsReached seen e bytes → Concludes c e bytes text → Closes c seen text
 closes c seen e bytes text r (concluded v p is d o) = closed (subst (λ x. Comes x seen (marked out text)) (sym is) (comes-to seen e bytes text v p r d o))
 closes c seen e bytes text r (left w l) =
-    let whole = left-in-whole script_limit bytes r.taken.rest text r.long l in
+    let whole = left-in-whole SCRIPT_LIMIT bytes r.taken.rest text r.long l in
     stopped w (playing (bytes ++ r.taken.rest) (reads-input r) whole (λ p s. left-front whole s))
 
 -- what holds of an Ok holds where there is no error
@@ -141,13 +145,14 @@ pub of-ok : {X E : Type 0} {P : Type 0} (r : Result X E) → is_err r ≡ false 
 of-ok (Ok x) h p = p
 of-ok (Err x) h p = absurd (cc)
 
+-- and what holds of an error where there is one
+pub of-err : {X E : Type 0} {P : Type 0} (r : Result X E) → is_err r ≡ true → OnErr r P → P
+of-err (Ok x) h p = absurd (cc)
+of-err (Err x) h p = p
+
 -- a count that rose later rose
 pub rose-later : (a b c : ℕ) → a ≤ b → Rose b c → Rose a c
 rose-later a b c l r = omega arith
-
--- a count that rose before and did not fall rose
-pub rose-before : (a b c : ℕ) → b ≤ c → Rose a b → Rose a c
-rose-before a b c l r = omega arith
 
 -- where the input that the words name is there, none is missed
 pub missing-same : (inputs : Option (List Input)) (name : Option (List ℕ)) (m : ℕ) → IfSome inputs (λ is. IsSome (input_named name is)) → missing_after inputs name m ≡ m
@@ -162,8 +167,10 @@ missing-same (Some is') name m h = there (input_named name is') h
 pub accepted-words : (r : Option Settings) (s : Settings) (w : Option Wanted) → option_map wanted_of r ≡ w → r ≡ Some s → w ≡ Some (wanted_of s)
 accepted-words r s w e is = sym e ∙ ap (option_map wanted_of) is
 
+-- refused words ask for nothing
 pub refused-words : (r : Option Settings) (w : Option Wanted) → option_map wanted_of r ≡ w → r ≡ None → w ≡ None
 refused-words r w e is = sym e ∙ ap (option_map wanted_of) is
 
+-- what is there is not missing
 pub not-both : {A : Type 0} {P : Type 0} (w : Option A) (x : A) → w ≡ None → w ≡ Some x → P
 not-both w x e f = absurd (let h : None ≡ Some x = sym e ∙ f in cc)

@@ -4,6 +4,7 @@ use Rattle.std.specs.Prelude.{◌==◌, IsErr}
 use Rattle.std.proofs.lemmas.List.{append-nil}
 use Rattle.std.proofs.lemmas.List.Sums.{count_by-le-length}
 use Rattle.std.specs.Io.KnownBytes.{append_known}
+use Rattle.sg_cut.specs.declared.limits.TheConstants.{SCRIPT_LIMIT}
 use Rattle.sg_cut.specs.Lines.{count_of_line_feeds}
 use Rattle.sg_tree.specs.Tree.{Code}
 use Rattle.sg_script.specs.Outcome.{a_tree}
@@ -86,8 +87,8 @@ module _ (whole : Bool) (script rest : List ℕ) (feeds : ℕ) (vars vars' : Var
   left-so r s e h d = d.left text (subst (λ x. Turns x rest whole feeds vars vars' text) e h)
 
 -- the line feeds so far are no more than the bytes so far
-pub feeds-fit : (feeds end n : ℕ) (rest passed later : List ℕ) → feeds + length rest ≤ 268435456 → length passed ≡ end → length later + end ≡ length rest → n ≡ count_of_line_feeds passed →
-    feeds + n + length later ≤ 268435456
+pub feeds-fit : (feeds end n : ℕ) (rest passed later : List ℕ) → feeds + length rest ≤ SCRIPT_LIMIT → length passed ≡ end → length later + end ≡ length rest → n ≡ count_of_line_feeds passed →
+    feeds + n + length later ≤ SCRIPT_LIMIT
 feeds-fit feeds end n rest passed later fits front back counted = omega (arith, count_by-le-length (λ b. b == 10) passed)
 
 -- a play that gave no verdict was left

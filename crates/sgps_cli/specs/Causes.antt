@@ -31,11 +31,11 @@ name_of fault.Budget = codes "Budget"
 name_of fault.Depth = codes "Depth"
 
 -- what is written to `err` at the end
-abbrev pub line_of : Cause → List ℕ
-line_of cause.Ok = []
-line_of (cause.Script fault line) = codes "sgps: line " ++ (decimal line ++ (codes ": " ++ (name_of fault ++ codes "\n")))
-line_of cause.Usage = codes "sgps: usage\n"
-line_of cause.ReadFault = codes "sgps: read fault\n"
-line_of cause.Overlong = codes "sgps: script too long\n"
-line_of cause.WriteFault = []
-line_of cause.Memory = codes "sgps: no memory\n"
+abbrev pub last_line : Cause → List ℕ
+last_line cause.Ok = []
+last_line (cause.Script fault line) = codes "sgps: line " ++ (decimal line ++ (codes ": " ++ (name_of fault ++ codes "\n")))
+last_line cause.Usage = codes "sgps: usage\n"
+last_line cause.ReadFault = codes "sgps: read fault\n"
+last_line cause.Overlong = codes "sgps: script too long\n"
+last_line cause.WriteFault = []
+last_line cause.Memory = codes "sgps: no memory\n"

@@ -1,15 +1,16 @@
 -- How a run ends, and what it wrote by then.
-use Rattle.std.specs.Prelude.{◌≡◌, ℕ, ◌⊎◌, Bool, true, false, List, [], ◌∷◌, ◌++◌, take, Option, None, Some}
+use Rattle.std.specs.Prelude.{◌≡◌, ℕ, ◌⊎◌, Bool, true, false, List, [], ◌∷◌, ◌++◌, length, take, Option, None, Some, is_some}
 use Rattle.std.specs.Io.KnownBytes.{append_known}
+use Rattle.sg_cut.specs.declared.limits.TheConstants.{SCRIPT_LIMIT}
 use Rattle.sg_io.specs.Faults.{Rose}
 use Rattle.sg_io.specs.Inputs.{Input, input_named}
 use Rattle.sg_play.specs.Record.{Record, out, err, marked, IsFrontOf, Played, done, refused, waiting}
 use Rattle.sg_play.specs.Play.{Play}
 use Rattle.sg_play.specs.Left.{IsLeft}
-use Rattle.sgps_cli.specs.Causes.{line_of}
+use Rattle.sgps_cli.specs.Causes.{last_line}
 use Rattle.sgps_cli.specs.Settings.{Wanted}
 use Rattle.sgps_cli.specs.Input.{IsInput, IsTaken}
-use Rattle.sgps_cli.specs.Settled.{Settled, script_limit}
+use Rattle.sgps_cli.specs.Settled.{Settled}
 use Rattle.sgps_cli.specs.declared.ending.Cause.{Cause}
 use Rattle.sgps_cli.specs.declared.ending.Cause.TheVariants as cause
 
@@ -24,7 +25,7 @@ pub record Seen : Type 0 where
   pub faults_after : ℕ
 
 -- what the two sinks have taken, as far as they tell it
-pub record Taken : Type 0 where
+pub record Sinks : Type 0 where
   pub on_out : Option (List ℕ)
   pub on_err : Option (List ℕ)
 
@@ -34,13 +35,14 @@ out_bytes [] = []
 out_bytes ((out, b) ∷ r) = b ∷ out_bytes r
 out_bytes ((err, b) ∷ r) = out_bytes r
 
+-- the bytes marked err, in their order
 abbrev pub err_bytes : Record → List ℕ
 err_bytes [] = []
 err_bytes ((out, b) ∷ r) = err_bytes r
 err_bytes ((err, b) ∷ r) = b ∷ err_bytes r
 
 -- `out` gained the bytes marked out and `err` those marked err, and neither gained more
-pub record Wrote (old new : Taken) (r : Record) : Type 0 where
+pub record Wrote (old new : Sinks) (r : Record) : Type 0 where
   pub out_gained : new.on_out ≡ append_known old.on_out (out_bytes r)
   pub err_gained : new.on_err ≡ append_known old.on_err (err_bytes r)
 
@@ -65,6 +67,15 @@ pub record WaitsForMore (seen : Seen) (p : Played) : Type 0 where
   pub played : Play bytes false p
   pub waits : p.ending ≡ waiting
 
+-- as many bytes were taken as a script may have, and no statement inside them ends the run
+abbrev pub ReachesLimit : Seen → Type 0
+ReachesLimit seen = (p : Played) × (w : WaitsForMore seen p) × (length w.bytes ≡ SCRIPT_LIMIT)
+
+-- a run ends Overlong exactly there: always where the source tells its bytes, and nothing stops the run before it says so
+pub record IsOverlongAtLimit (c : Cause) (seen : Seen) : Type 0 where
+  pub only : c ≡ cause.Overlong → ReachesLimit seen
+  pub always : is_some seen.inputs ≡ true → ReachesLimit seen → (c ≡ cause.Overlong) ⊎ (c ≡ cause.WriteFault) ⊎ (c ≡ cause.Memory)
+
 -- accepted words, with which the source was not begun
 abbrev pub CouldNotBegin : Seen → Type 0
 CouldNotBegin seen = ((wanted : Wanted) × (seen.settings ≡ Some wanted)) × (seen.begun ≡ false)
@@ -82,21 +93,21 @@ Comes cause.Memory seen body = ⊥
 
 -- the whole record of a cause: its line follows what stands before it
 abbrev pub full : Cause → Record → Record
-full c body = body ++ marked err (line_of c)
+full c body = body ++ marked err (last_line c)
 
 -- A run that was stopped had written this text, while its script was played, and this front of a last line. The text is
 -- a front of what the whole script writes, for every play that the script has. There is at most one, and that there
 -- always is one is no part of this definition: so it also says what was played, whole statements and a part of one.
 pub data IsEarly (seen : Seen) : List ℕ → List ℕ → Type 0 where
   nothing : IsEarly seen [] []
-  playing : {text : List ℕ} (b : List ℕ) → Reads seen b → IsLeft (take script_limit b) text
+  playing : {text : List ℕ} (b : List ℕ) → Reads seen b → IsLeft (take SCRIPT_LIMIT b) text
       → ((p : Played) → Settled b p → IsFrontOf (marked out text) p.written) → IsEarly seen text []
-  telling : {text said : List ℕ} (c : Cause) (rest : List ℕ) → Comes c seen (marked out text) → line_of c ≡ said ++ rest → IsEarly seen text said
+  telling : {text said : List ℕ} (c : Cause) (rest : List ℕ) → Comes c seen (marked out text) → last_line c ≡ said ++ rest → IsEarly seen text said
 
 -- a run that was stopped wrote what it had written, and a front of the line for want of memory
-abbrev pub RunsOut : Seen → Taken → Taken → Type 0
+abbrev pub RunsOut : Seen → Sinks → Sinks → Type 0
 RunsOut seen old new =
-    (text said line rest : List ℕ) × IsEarly seen text said × (line_of cause.Memory ≡ line ++ rest) × Wrote old new (marked out text ++ marked err (said ++ line))
+    (text said line rest : List ℕ) × IsEarly seen text said × (last_line cause.Memory ≡ line ++ rest) × Wrote old new (marked out text ++ marked err (said ++ line))
 
 -- how often the sinks had failed when a run began, and when it ended
 pub record SinkFaults : Type 0 where
@@ -106,14 +117,14 @@ pub record SinkFaults : Type 0 where
   pub err_after : ℕ
 
 -- a sink failed; a part of a last line is there only where `err` failed, and so is a line for want of memory
-abbrev pub FailsToWrite : Seen → Taken → Taken → SinkFaults → Type 0
+abbrev pub FailsToWrite : Seen → Sinks → Sinks → SinkFaults → Type 0
 FailsToWrite seen old new f =
     (Rose f.out_before f.out_after ⊎ Rose f.err_before f.err_after)
     × (((text said : List ℕ) × IsEarly seen text said × ((said ≡ []) ⊎ Rose f.err_before f.err_after) × Wrote old new (marked out text ++ marked err said))
     ⊎ (Rose f.err_before f.err_after × RunsOut seen old new))
 
 -- how a run ends: with the whole record of its cause, or stopped by a sink or for want of memory
-abbrev pub Ends : Cause → Seen → Taken → Taken → SinkFaults → Type 0
+abbrev pub Ends : Cause → Seen → Sinks → Sinks → SinkFaults → Type 0
 Ends cause.WriteFault seen old new f = FailsToWrite seen old new f
 Ends cause.Memory seen old new f = RunsOut seen old new
 Ends c seen old new f = (body : Record) × Comes c seen body × Wrote old new (full c body)
@@ -122,6 +133,11 @@ Ends c seen old new f = (body : Record) × Comes c seen body × Wrote old new (f
 pub data Closes (c : Cause) (seen : Seen) (text : List ℕ) : Type 0 where
   closed : Comes c seen (marked out text) → Closes c seen text
   stopped : (c ≡ cause.WriteFault) ⊎ (c ≡ cause.Memory) → IsEarly seen text [] → Closes c seen text
+
+-- the same, and a run is too long exactly at the limit
+pub record IsClosed (c : Cause) (seen : Seen) (text : List ℕ) : Type 0 where
+  pub closes : Closes c seen text
+  pub overlong : IsOverlongAtLimit c seen
 
 -- the source tells the input that the words name, and the script in it is played to its end
 pub record PlaysToEnd (settings : Option Wanted) (inputs : Option (List Input)) : Type 0 where

@@ -1,6 +1,5 @@
 pub mod Causes
 pub mod Settings
-pub mod Words
 pub mod Input
 pub mod Settled
 pub mod Extents

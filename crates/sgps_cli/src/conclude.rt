@@ -2,6 +2,7 @@
 
 ghost use Rattle.std.specs.Prelude.{◌≡◌, ◌≤◌, ℕ, List, length};
 ghost use Rattle.std.specs.Io.KnownBytes.{append_known};
+ghost use Rattle.sg_cut.specs.declared.limits.TheConstants.{SCRIPT_LIMIT};
 ghost use Rattle.sg_io.specs.Faults.{Rose};
 ghost use Rattle.sgps_cli.specs.Concludes.{Concludes, cause_for, is_whole, waiting_cause};
 
@@ -13,7 +14,7 @@ use std::alloc::Global;
 
 /// Plays the bytes that were taken, and says what ended the run.
 pub fn conclude<W: Sink>(alloc: Global, script: &[u8], extent: Extent, out: &mut W) -> Cause
-    requires { length script.now ≤ 268435456 }
+    requires { length script.now ≤ SCRIPT_LIMIT }
     ensures concludes { (gained : List ℕ) × (W.taken out.new ≡ append_known (W.taken out.old) gained) × Concludes result extent script.now gained }
     ensures write_fault { result ≡ Cause.WriteFault → Rose (W.faults out.old) (W.faults out.new) }
     ensures out_faults { W.faults out.old ≤ W.faults out.new }

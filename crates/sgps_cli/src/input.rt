@@ -3,13 +3,12 @@
 ghost use Rattle.std.specs.Prelude.{◌≡◌, ◌+◌, ◌<◌, ◌≤◌, ℕ, List, [], true, length, take, vec_len, Ok, Err, IfSome};
 ghost use Rattle.std.specs.Io.KnownBytes.{prepend_known};
 ghost use Rattle.sg_io.specs.Faults.{Rose};
+ghost use Rattle.sg_cut.specs.declared.limits.TheConstants.{SCRIPT_LIMIT};
 ghost use Rattle.sgps_cli.specs.Extents.{IsExtent};
 
+use sg_cut::SCRIPT_LIMIT;
 use sg_io::Source;
 use std::alloc::AllocError;
-
-/// So many bytes of a script are taken at most.
-pub const SCRIPT_LIMIT: usize = 268_435_456;
 
 /// The room for the first piece; each further piece doubles what is held.
 const FIRST_ROOM: usize = 65_536;
@@ -48,9 +47,9 @@ struct Filled {
 /// Takes the bytes of an input that was begun, up to the limit.
 pub fn take_input<S: Source>(source: &mut S, bytes: &mut Vec<u8>) -> Result<Extent, AllocError>
     requires begun { S.begun source.old ≡ true }
-    requires room { vec_len bytes.old < 268435456 }
+    requires room { vec_len bytes.old < SCRIPT_LIMIT }
     ensures taken { prepend_known bytes.old.items (S.left source.old) ≡ prepend_known bytes.new.items (S.left source.new) }
-    ensures within { length bytes.new.items ≤ 268435456 }
+    ensures within { length bytes.new.items ≤ SCRIPT_LIMIT }
     ensures extent { IsExtent result (length bytes.new.items) (S.left source.new) }
     ensures later { S.faults source.old ≤ S.faults source.new }
     ensures cause { result ≡ Ok Extent.Fault → Rose (S.faults source.old) (S.faults source.new) }
@@ -72,12 +71,13 @@ pub fn take_input<S: Source>(source: &mut S, bytes: &mut Vec<u8>) -> Result<Exte
 /// Takes a further piece, at most as large as what is held or as the first room.
 fn take_piece<S: Source>(source: &mut S, bytes: &mut Vec<u8>) -> Result<Stop, AllocError>
     requires begun { S.begun source.old ≡ true }
-    requires room { vec_len bytes.old < 268435456 }
+    requires room { vec_len bytes.old < SCRIPT_LIMIT }
     ensures taken { prepend_known bytes.old.items (S.left source.old) ≡ prepend_known bytes.new.items (S.left source.new) }
-    ensures within { vec_len bytes.new ≤ 268435456 }
+    ensures within { vec_len bytes.new ≤ SCRIPT_LIMIT }
     ensures grows { result ≡ Ok Stop.Full → vec_len bytes.old < vec_len bytes.new }
     ensures end { result ≡ Ok Stop.End → IfSome (S.left source.new) (λ rest. rest ≡ []) }
-    ensures below { result ≡ Ok Stop.End → vec_len bytes.new < 268435456 }
+    ensures below { result ≡ Ok Stop.End → vec_len bytes.new < SCRIPT_LIMIT }
+    ensures below_at_fault { result ≡ Ok Stop.Fault → vec_len bytes.new < SCRIPT_LIMIT }
     ensures later { S.faults source.old ≤ S.faults source.new }
     ensures cause { result ≡ Ok Stop.Fault → Rose (S.faults source.old) (S.faults source.new) }
     ensures begun { S.begun source.new ≡ true }
@@ -102,6 +102,7 @@ fn fill<S: Source>(source: &mut S, buffer: &mut [u8], from: usize) -> Filled
     ensures full { result.stop ≡ Stop.Full → result.held ≡ length buffer.new }
     ensures end { result.stop ≡ Stop.End → IfSome (S.left source.new) (λ rest. rest ≡ []) }
     ensures below { result.stop ≡ Stop.End → result.held < length buffer.new }
+    ensures below_at_fault { result.stop ≡ Stop.Fault → result.held < length buffer.new }
     ensures later { S.faults source.old ≤ S.faults source.new }
     ensures cause { result.stop ≡ Stop.Fault → Rose (S.faults source.old) (S.faults source.new) }
     ensures begun { S.begun source.new ≡ true }

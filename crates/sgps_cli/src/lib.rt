@@ -6,16 +6,17 @@
 //! each cause, the full record of each, and what a run wrote that a sink or want of memory stopped.
 #![tactic(auto)]
 
+mod command_line;
 mod conclude;
 mod ending;
 mod input;
+pub mod laws;
 mod play;
 mod program;
 mod report;
 mod settle;
 #[cfg(test)]
 mod tests;
-mod words;
 
 pub use ending::{Cause, Ending};
 pub use program::run;

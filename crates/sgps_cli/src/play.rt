@@ -4,6 +4,7 @@ ghost use Rattle.std.specs.Prelude.{◌≡◌, ◌+◌, ◌≤◌, ◌++◌, ℕ
 ghost use Rattle.std.specs.Io.KnownBytes.{append_known};
 ghost use Rattle.sg_io.specs.Faults.{HasCauseAt};
 ghost use Rattle.sg_cut.specs.Cut.{StandsAt};
+ghost use Rattle.sg_cut.specs.declared.limits.TheConstants.{SCRIPT_LIMIT};
 ghost use Rattle.sg_cut.specs.Lines.{line_of};
 ghost use Rattle.sg_eval.specs.Machine.{state_of};
 ghost use Rattle.sgps_cli.specs.Playing.{Performed, Plays, Turns};
@@ -60,7 +61,7 @@ pub fn play<W: Sink>(
     whole: bool,
     out: &mut W,
 ) -> Result<Verdict, Stopped>
-    requires { length script.now ≤ 268435456 }
+    requires { length script.now ≤ SCRIPT_LIMIT }
     ensures plays { (gained : List ℕ) × (W.taken out.new ≡ append_known (W.taken out.old) gained) × Plays result script.now whole gained }
     ensures cause { HasCauseAt Stopped.Write (W.faults out.old) (W.faults out.new) result }
     ensures sure { W.sure out.new ≡ W.sure out.old }
@@ -89,7 +90,7 @@ fn take_turn<W: Sink>(
     feeds: u64,
     out: &mut W,
 ) -> Result<Turn, Stopped>
-    requires { feeds + length rest.now ≤ 268435456 }
+    requires { feeds + length rest.now ≤ SCRIPT_LIMIT }
     ensures turns { (gained : List ℕ) × (W.taken out.new ≡ append_known (W.taken out.old) gained) × Turns result rest.now whole feeds (state_of machine.old).variables (state_of machine.new).variables gained }
     ensures cause { HasCauseAt Stopped.Write (W.faults out.old) (W.faults out.new) result }
     ensures sure { W.sure out.new ≡ W.sure out.old }
@@ -117,7 +118,7 @@ fn execute<W: Sink>(
     out: &mut W,
 ) -> Result<Turn, Stopped>
     requires stands { StandsAt rest.now begin end }
-    requires fits { feeds + length rest.now ≤ 268435456 }
+    requires fits { feeds + length rest.now ≤ SCRIPT_LIMIT }
     ensures turns { (gained : List ℕ) × (W.taken out.new ≡ append_known (W.taken out.old) gained) × Turns result rest.now whole feeds (state_of machine.old).variables (state_of machine.new).variables gained }
     ensures cause { HasCauseAt Stopped.Write (W.faults out.old) (W.faults out.new) result }
     ensures sure { W.sure out.new ≡ W.sure out.old }
@@ -134,7 +135,7 @@ fn execute<W: Sink>(
 /// The play ends, since the statement that begins here is refused.
 fn refused(fault: Fault, rest: &[u8], begin: usize, feeds: u64) -> Turn
     requires within { begin ≤ length rest.now }
-    requires fits { feeds + length rest.now ≤ 268435456 }
+    requires fits { feeds + length rest.now ≤ SCRIPT_LIMIT }
     ensures { result ≡ Turn.Stops (Verdict.Refused fault (feeds + line_of rest.now begin)) }
 {
     let (before, _) = rest.split_at(begin);

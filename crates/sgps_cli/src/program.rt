@@ -5,8 +5,8 @@ ghost use Rattle.sg_io.specs.Faults.{Rose};
 ghost use Rattle.sgps_cli.specs.Causes.{status_of};
 ghost use Rattle.sgps_cli.specs.Settings.{Wanted, settings_of};
 ghost use Rattle.sgps_cli.specs.Input.{HasInput, IsTaken};
-ghost use Rattle.sgps_cli.specs.Settled.{script_limit};
-ghost use Rattle.sgps_cli.specs.Ends.{Ends, EndsWell, PlaysToEnd};
+ghost use Rattle.sg_cut.specs.declared.limits.TheConstants.{SCRIPT_LIMIT};
+ghost use Rattle.sgps_cli.specs.Ends.{Ends, EndsWell, IsOverlongAtLimit, PlaysToEnd};
 
 use crate::ending::Ending;
 use crate::report::report;
@@ -19,7 +19,7 @@ use std::alloc::Global;
 ///
 /// Ok: the script ran to its end, or to `quit;`. Script: a statement was refused, with its line. Usage: the words are
 /// not accepted, and nothing was begun. ReadFault: the source failed, and no statement inside the bytes read ends the
-/// run. Overlong: 268,435,456 bytes were taken, and no statement inside them ends the run. WriteFault: a sink failed.
+/// run. Overlong: as many bytes were taken as a script may have, and no statement inside them ends the run. WriteFault: a sink failed.
 /// Memory: memory was wanting, at any point; after these two `out` has a front of what the script prints.
 pub fn run<S: Source, W: Sink, E: Sink>(
     alloc: Global,
@@ -38,6 +38,11 @@ pub fn run<S: Source, W: Sink, E: Sink>(
         (record { out_before = W.faults out.old; out_after = W.faults out.new; err_before = E.faults err.old; err_after = E.faults err.new }) }
     ensures status { result.status ≡ status_of result.cause }
 
+    // Overlong comes exactly where as many bytes were taken as a script may have, and no statement inside them ends the
+    // run; a sink that fails, or want of memory, may stop it before it says so.
+    ensures overlong { IsOverlongAtLimit result.cause
+        (record { settings = settings_of (map string_bytes words.now); inputs = S.inputs source.old; begun = S.begun source.new; left = S.left source.new; faults_before = S.faults source.old; faults_after = S.faults source.new }) }
+
     // A script that is played to its end ends Ok, or for want of memory, where nothing fails.
     ensures complete { PlaysToEnd (settings_of (map string_bytes words.now)) (S.inputs source.old)
         → ¬ Rose (S.faults source.old) (S.faults source.new) → ¬ Rose (W.faults out.old) (W.faults out.new) → ¬ Rose (E.faults err.old) (E.faults err.new)
@@ -51,7 +56,7 @@ pub fn run<S: Source, W: Sink, E: Sink>(
     ensures untouched { settings_of (map string_bytes words.now) ≡ None → source.new ≡ source.old }
     ensures taken { S.begun source.new ≡ true
         → (wanted : Wanted) × (settings_of (map string_bytes words.now) ≡ Some wanted)
-        × ((bytes : List ℕ) × IsTaken (S.inputs source.old) wanted.file (S.left source.new) bytes × (length bytes ≤ script_limit)) }
+        × ((bytes : List ℕ) × IsTaken (S.inputs source.old) wanted.file (S.left source.new) bytes × (length bytes ≤ SCRIPT_LIMIT)) }
     ensures missing { HasInput (settings_of (map string_bytes words.now)) (S.inputs source.old) → S.missing source.new ≡ S.missing source.old }
 
     // Counts of faults never fall, and what is sure, and the inputs, stay.

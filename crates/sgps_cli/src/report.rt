@@ -3,7 +3,7 @@
 ghost use Rattle.std.specs.Prelude.{◌≡◌, ◌≤◌, ◌++◌, ℕ, List, OnOk, decimal, codes};
 ghost use Rattle.std.specs.Io.KnownBytes.{append_known};
 ghost use Rattle.sg_io.specs.Faults.{AppendsFront, HasCauseAt};
-ghost use Rattle.sgps_cli.specs.Causes.{line_of, name_of};
+ghost use Rattle.sgps_cli.specs.Causes.{last_line, name_of};
 ghost use Rattle.sgps_cli.specs.Reports.{IsReport};
 
 use crate::ending::{Cause, fault_name};
@@ -26,8 +26,8 @@ pub fn report<E: Sink>(err: &mut E, cause: Cause) -> Cause
 
 /// Writes the line of a cause.
 fn write_line<E: Sink>(err: &mut E, cause: Cause) -> Result<(), SinkFault>
-    ensures all { OnOk result (E.taken err.new ≡ append_known (E.taken err.old) (line_of cause)) }
-    ensures front { AppendsFront (E.taken err.old) (E.taken err.new) (line_of cause) }
+    ensures all { OnOk result (E.taken err.new ≡ append_known (E.taken err.old) (last_line cause)) }
+    ensures front { AppendsFront (E.taken err.old) (E.taken err.new) (last_line cause) }
     ensures cause { HasCauseAt SinkFault.Failed (E.faults err.old) (E.faults err.new) result }
     ensures sure { E.sure err.new ≡ E.sure err.old }
 {
@@ -43,8 +43,8 @@ fn write_line<E: Sink>(err: &mut E, cause: Cause) -> Result<(), SinkFault>
 
 /// Writes the line of a refused statement.
 fn write_fault<E: Sink>(err: &mut E, fault: Fault, line: u64) -> Result<(), SinkFault>
-    ensures all { OnOk result (E.taken err.new ≡ append_known (E.taken err.old) (line_of (Cause.Script fault line))) }
-    ensures front { AppendsFront (E.taken err.old) (E.taken err.new) (line_of (Cause.Script fault line)) }
+    ensures all { OnOk result (E.taken err.new ≡ append_known (E.taken err.old) (last_line (Cause.Script fault line))) }
+    ensures front { AppendsFront (E.taken err.old) (E.taken err.new) (last_line (Cause.Script fault line)) }
     ensures cause { HasCauseAt SinkFault.Failed (E.faults err.old) (E.faults err.new) result }
     ensures sure { E.sure err.new ≡ E.sure err.old }
 {

@@ -7,13 +7,13 @@ ghost use Rattle.sg_io.specs.Faults.{Rose};
 ghost use Rattle.sg_io.specs.Inputs.{missing_after};
 ghost use Rattle.sgps_cli.specs.Settings.{Wanted, settings_of};
 ghost use Rattle.sgps_cli.specs.Input.{HasInput, IsTaken};
-ghost use Rattle.sgps_cli.specs.Settled.{script_limit};
-ghost use Rattle.sgps_cli.specs.Ends.{Closes};
+ghost use Rattle.sg_cut.specs.declared.limits.TheConstants.{SCRIPT_LIMIT};
+ghost use Rattle.sgps_cli.specs.Ends.{IsClosed};
 
+use crate::command_line::read_words;
 use crate::conclude::conclude;
 use crate::ending::Cause;
 use crate::input::take_input;
-use crate::words::read_words;
 use sg_io::{Sink, Source};
 use std::alloc::Global;
 
@@ -26,14 +26,14 @@ pub fn settle<S: Source, W: Sink>(
 ) -> Cause
     requires { S.begun source.old ≡ false }
     ensures ends { (gained : List ℕ) × (W.taken out.new ≡ append_known (W.taken out.old) gained)
-        × Closes result
+        × IsClosed result
         (record { settings = settings_of (map string_bytes words.now); inputs = S.inputs source.old; begun = S.begun source.new; left = S.left source.new; faults_before = S.faults source.old; faults_after = S.faults source.new })
         gained }
     ensures write_fault { result ≡ Cause.WriteFault → Rose (W.faults out.old) (W.faults out.new) }
     ensures untouched { settings_of (map string_bytes words.now) ≡ None → source.new ≡ source.old }
     ensures taken { S.begun source.new ≡ true
         → (wanted : Wanted) × (settings_of (map string_bytes words.now) ≡ Some wanted)
-        × ((bytes : List ℕ) × IsTaken (S.inputs source.old) wanted.file (S.left source.new) bytes × (length bytes ≤ script_limit)) }
+        × ((bytes : List ℕ) × IsTaken (S.inputs source.old) wanted.file (S.left source.new) bytes × (length bytes ≤ SCRIPT_LIMIT)) }
     ensures missing { HasInput (settings_of (map string_bytes words.now)) (S.inputs source.old) → S.missing source.new ≡ S.missing source.old }
     ensures source_faults { S.faults source.old ≤ S.faults source.new }
     ensures out_faults { W.faults out.old ≤ W.faults out.new }
@@ -56,10 +56,10 @@ fn play_input<S: Source, W: Sink>(
 ) -> Cause
     requires { S.begun source.old ≡ false }
     ensures ends { (gained : List ℕ) × (W.taken out.new ≡ append_known (W.taken out.old) gained)
-        × Closes result (record { settings = Some (record { file = option_copied name.entry }); inputs = S.inputs source.old; begun = S.begun source.new; left = S.left source.new; faults_before = S.faults source.old; faults_after = S.faults source.new }) gained }
+        × IsClosed result (record { settings = Some (record { file = option_copied name.entry }); inputs = S.inputs source.old; begun = S.begun source.new; left = S.left source.new; faults_before = S.faults source.old; faults_after = S.faults source.new }) gained }
     ensures write_fault { result ≡ Cause.WriteFault → Rose (W.faults out.old) (W.faults out.new) }
     ensures taken { S.begun source.new ≡ true
-        → (bytes : List ℕ) × IsTaken (S.inputs source.old) (option_copied name.entry) (S.left source.new) bytes × (length bytes ≤ script_limit) }
+        → (bytes : List ℕ) × IsTaken (S.inputs source.old) (option_copied name.entry) (S.left source.new) bytes × (length bytes ≤ SCRIPT_LIMIT) }
     ensures missing { S.missing source.new ≡ missing_after (S.inputs source.old) (option_copied name.entry) (S.missing source.old) }
     ensures source_faults { S.faults source.old ≤ S.faults source.new }
     ensures out_faults { W.faults out.old ≤ W.faults out.new }

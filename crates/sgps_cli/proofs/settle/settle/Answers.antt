@@ -1,11 +1,12 @@
 use Rattle.std.proofs.Common.{[], refl, sym, subst, ◌∙◌}
 use Rattle.std.specs.Prelude.{map, string_bytes}
-use Rattle.sgps_cli.specs.Words.{wanted_of}
+use Rattle.sgps_cli.specs.Settings.{wanted_of}
 use Rattle.sgps_cli.specs.Input.{HasInput}
 use Rattle.sgps_cli.specs.Settings.{settings_of}
-use Rattle.sgps_cli.specs.Ends.{Closes, closed}
+use Rattle.sgps_cli.specs.Ends.{IsClosed}
 use Rattle.sgps_cli.proofs.Turning.{unchanged}
 use Rattle.sgps_cli.proofs.Settling.{missing-same, accepted-words, refused-words, not-both}
+use Rattle.sgps_cli.proofs.Reaching.{closed-by-words}
 use Rattle.sgps_cli.proofs.settle.settle.Goals as goal
 
 pub returns-in-Some-clause-ends : goal.returns-in-Some-clause-ends
@@ -13,7 +14,7 @@ returns-in-Some-clause-ends g c =
     let p = c.play_input.ensures.ends in (
       p.0,
       p.1,
-      subst (λ s. Closes c.play_input.result (record { settings = s; inputs = g.S.Source.inputs c.args.source.now; begun = g.S.Source.begun c.play_input.new.source; left = g.S.Source.left c.play_input.new.source; faults_before = g.S.Source.faults c.args.source.now; faults_after = g.S.Source.faults c.play_input.new.source }) p.0)
+      subst (λ s. IsClosed c.play_input.result (record { settings = s; inputs = g.S.Source.inputs c.args.source.now; begun = g.S.Source.begun c.play_input.new.source; left = g.S.Source.left c.play_input.new.source; faults_before = g.S.Source.faults c.args.source.now; faults_after = g.S.Source.faults c.play_input.new.source }) p.0)
           (sym (accepted-words c.read_words.result c.in-Some.settings (settings_of (map string_bytes c.args.words.now)) c.read_words.ensures c.in-Some.is)) p.2,
     )
 
@@ -31,4 +32,4 @@ returns-in-Some-clause-missing g c = λ h.
 
 pub returns-in-None-clause-ends : goal.returns-in-None-clause-ends
 returns-in-None-clause-ends g c =
-    ([], unchanged _, closed (refused-words c.read_words.result (settings_of (map string_bytes c.args.words.now)) c.read_words.ensures c.in-None.is, refl))
+    ([], unchanged _, closed-by-words _ (refused-words c.read_words.result (settings_of (map string_bytes c.args.words.now)) c.read_words.ensures c.in-None.is))

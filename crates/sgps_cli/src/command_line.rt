@@ -3,7 +3,7 @@
 ghost use Rattle.std.specs.Prelude.{◌≡◌, ◌∷◌, [], map, string_bytes};
 ghost use Rattle.std.specs.Option.{option_map};
 ghost use Rattle.sgps_cli.specs.Settings.{names_file, settings_of};
-ghost use Rattle.sgps_cli.specs.Words.{wanted_of};
+ghost use Rattle.sgps_cli.specs.Settings.{wanted_of};
 
 /// What accepted words ask for.
 #[derive(Clone, Copy)]
