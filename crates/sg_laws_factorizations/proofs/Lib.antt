@@ -1,0 +1,2 @@
+pub mod ElementsSettled
+pub mod SemigroupsSettled

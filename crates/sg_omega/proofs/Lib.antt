@@ -1,0 +1,2 @@
+pub mod MinimalLemmas
+pub mod OmegaExists
