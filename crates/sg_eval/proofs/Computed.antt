@@ -4,9 +4,9 @@ use Rattle.std.specs.Prelude.{FitsSigned, SomeIff, IfSome, IsTrue, ◌<ℤ◌, �
 use Rattle.std.specs.Int.{w64}
 use Rattle.sg_value.specs.Data.{int, truth}
 use Rattle.sg_rows.specs.Order.{IsReply, fits}
-use Rattle.sg_rows.specs.Kinds.{answers, an_integer, whether}
+use Rattle.sg_rows.specs.Values.{answers, an_integer, whether}
 use Rattle.sg_rows.proofs.Replying.{delivered, delivers_integer, delivers_truth, answers_pass}
-use Rattle.sg_calls.specs.Words.{IsRemainder}
+use Rattle.sg_calls.specs.Remainders.{IsRemainder}
 use Rattle.sg_calls.specs.declared.operator.Operator.TheVariants as operator
 use Rattle.sg_tree.specs.declared.expr.Op.TheVariants.{Plus, Less, Times, Mod}
 use Rattle.sg_tree.specs.declared.expr.Rel.TheVariants.{Eq, Ne, Lt, Le, Gt, Ge}

@@ -2,12 +2,11 @@
 use Rattle.std.proofs.Common.{◌≡◌, ◌<◌, ◌+◌, ℕ, zero, suc, List, [], ◌∷◌, length, get_or, drop, Bool, true, false, Option, Some, None, Result, Ok, Err, IsErrAnd, refl, ap, sym, ◌∙◌, subst, arith}
 use Rattle.std.specs.Prelude.{if◌then◌else◌}
 use Rattle.std.proofs.lemmas.List.{drop_more}
-use Rattle.sg_value.specs.Data.{Items, item}
+use Rattle.sg_value.specs.Data.{Items, item, joined}
 use Rattle.sg_value.specs.Plain.{Named, AllKnown, AllKnownIn, plain, plain_of_all, Things}
 use Rattle.sg_value.specs.declared.value.Value.{Value}
 use Rattle.sg_rows.specs.Kinds.{as_list}
 use Rattle.sg_rows.specs.Order.{Plain}
-use Rattle.sg_rows.specs.Words.{join}
 use Rattle.sg_rows.specs.declared.fault.CallFault.{CallFault}
 use Rattle.sg_rows.specs.declared.fault.Fault.TheVariants.{WrongCount}
 use Rattle.sg_tree.specs.Tree.{Tree, Argument, Arguments, no_arguments, argument, plain as plain_argument, arrow}
@@ -86,7 +85,7 @@ module _ (ps : Vars) (x : List ℕ) (t : Tree) (fold : Folding) (s s1 : State) (
 
   -- what is left once it is known whether the entries that are left are looked at
   abbrev then_on : Named → Plain → Bool → Process Plain
-  then_on names d b = if b then fold_on fold over (join (plain_of_all names vs) (gathered_at fold (plain names v) d)) (rest names) else finished fold false (plain_of_all names vs)
+  then_on names d b = if b then fold_on fold over (joined (plain_of_all names vs) (gathered_at fold (plain names v) d)) (rest names) else finished fold false (plain_of_all names vs)
 
   applied : (r : Result Value CallFault) → Evaluates plain AllKnown r s s1 (λ names. eval ((x, plain names v) ∷ s.parameters) t) → Evaluates plain AllKnown r s s1 (λ names. over (plain names v))
   applied r h = subst (λ qs. Evaluates plain AllKnown r s s1 (λ names. eval ((x, plain names v) ∷ qs) t)) same h
@@ -111,7 +110,7 @@ module _ (ps : Vars) (x : List ℕ) (t : Tree) (fold : Folding) (s s1 : State) (
         evaluates_then plain AllKnown plain AllKnown w r s s1 s2 (λ names. over (plain names v)) (λ names d. goes_on fold d >>= then_on names d) (applied (Ok w) h)
         (evaluates_then itself no_semigroup plain AllKnown b r s1 s1 s2 (λ names. goes_on fold (plain names w)) (λ names. then_on names (plain names w)) g k)
 
-    pub entry_gathered : (ws : List Value) (r : Result Value CallFault) (s2 : State) → ((names : Named) → plain_of_all names ws ≡ join (plain_of_all names vs) (gathered_at fold (plain names v) (plain names w)))
+    pub entry_gathered : (ws : List Value) (r : Result Value CallFault) (s2 : State) → ((names : Named) → plain_of_all names ws ≡ joined (plain_of_all names vs) (gathered_at fold (plain names v) (plain names w)))
         → Evaluates plain AllKnown r s1 s2 (λ names. fold_on fold over (plain_of_all names ws) (rest names)) → Evaluates plain AllKnown r s1 s2 (λ names. then_on names (plain names w) true)
     entry_gathered ws r s2 is k = evaluates_as plain AllKnown r s1 s2 (λ names. fold_on fold over (plain_of_all names ws) (rest names)) (λ names. then_on names (plain names w) true) (λ names. ap (λ ds. fold_on fold over ds (rest names)) (is names)) k
 

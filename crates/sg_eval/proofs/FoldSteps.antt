@@ -3,11 +3,11 @@ use Rattle.std.proofs.Common.{◌≡◌, ◌⊎◌, ℤ, inl, inr, IsErrAnd, suc
 use Rattle.sg_value.specs.Known.{named}
 use Rattle.std.proofs.Math.Path.{fun_ext}
 use Rattle.std.specs.Prelude.{if◌then◌else◌}
-use Rattle.sg_value.specs.Data.{Data, int, truth, text, list, fail, semigroup, ideal, Items, none, item, data_map, items_map, EachThing, EachThingOfAll, Kind}
+use Rattle.sg_value.specs.Data.{Data, int, truth, text, list, fail, semigroup, ideal, Items, none, item, data_map, items_map, EachThing, EachThingOfAll, Kind, joined}
 use Rattle.sg_value.specs.Plain.{Named, AllKnown, AllKnownIn, IsKnown, contents, contents_of_all, plain, plain_of_all, thing_at, Things, Places, Stored}
 use Rattle.sg_value.specs.declared.value.Value.{Value}
 use Rattle.sg_rows.specs.Order.{Plain}
-use Rattle.sg_rows.specs.Words.{entry_count, join}
+use Rattle.sg_rows.specs.Entries.{entry_count}
 use Rattle.sg_eval.specs.declared.folding.Folding.{Folding}
 use Rattle.sg_eval.specs.declared.folding.Folding.TheVariants.{EachValue, ThoseTrue, AllTrue, AnyTrue, CountTrue}
 use Rattle.sg_eval.specs.Expressions.{folded, values_over, true_over, is_each, decided, ask}
@@ -29,21 +29,21 @@ pub on_ok_then : {E : Type 0} (r : Result (Unit {0}) E) (P Q : Type 0) → (P �
 on_ok_then (Ok u) P Q f h = f h
 on_ok_then (Err e) P Q f h = tt
 
-pub contents-put : (vs ws : List Value) (v : Value) → ws ≡ vs ++ v ∷ [] → contents_of_all ws ≡ join (contents_of_all vs) (item (contents v) none)
+pub contents-put : (vs ws : List Value) (v : Value) → ws ≡ vs ++ v ∷ [] → contents_of_all ws ≡ joined (contents_of_all vs) (item (contents v) none)
 contents-put vs ws v is = ap contents_of_all is ∙ contents-more vs v
   where
-    contents-more : (vs : List Value) (v : Value) → contents_of_all (vs ++ v ∷ []) ≡ join (contents_of_all vs) (item (contents v) none)
+    contents-more : (vs : List Value) (v : Value) → contents_of_all (vs ++ v ∷ []) ≡ joined (contents_of_all vs) (item (contents v) none)
     contents-more [] v = refl
     contents-more (u ∷ vs) v = ap (item (contents u)) (contents-more vs v)
 
 pub gathered_one : (fold : Folding) (vs ws : List Value) (u d v : Stored) (w : Value) → ws ≡ vs ++ w ∷ [] → contents w ≡ u → gathered_at fold d v ≡ item u none
-    → contents_of_all ws ≡ join (contents_of_all vs) (gathered_at fold d v)
-gathered_one fold vs ws u d v w is seen at = contents-put vs ws w is ∙ (ap (λ x. join (contents_of_all vs) (item x none)) seen ∙ ap (join (contents_of_all vs)) (sym at))
+    → contents_of_all ws ≡ joined (contents_of_all vs) (gathered_at fold d v)
+gathered_one fold vs ws u d v w is seen at = contents-put vs ws w is ∙ (ap (λ x. joined (contents_of_all vs) (item x none)) seen ∙ ap (joined (contents_of_all vs)) (sym at))
 
-pub gathered_none : (fold : Folding) (ds : Items Places) (d v : Stored) → gathered_at fold d v ≡ none → ds ≡ join ds (gathered_at fold d v)
-gathered_none fold ds d v at = sym (ap (join ds) at ∙ join-none ds)
+pub gathered_none : (fold : Folding) (ds : Items Places) (d v : Stored) → gathered_at fold d v ≡ none → ds ≡ joined ds (gathered_at fold d v)
+gathered_none fold ds d v at = sym (ap (joined ds) at ∙ join-none ds)
 
-pub join-map : {H K : Kind → Type 0} (f : (k : Kind) → H k → K k) (ds es : Items H) → items_map f (join ds es) ≡ join (items_map f ds) (items_map f es)
+pub join-map : {H K : Kind → Type 0} (f : (k : Kind) → H k → K k) (ds es : Items H) → items_map f (joined ds es) ≡ joined (items_map f ds) (items_map f es)
 join-map f none es = refl
 join-map f (item d ds) es = ap (item (data_map f d)) (join-map f ds es)
 
@@ -68,13 +68,13 @@ gathered_at-map f AnyTrue d v = refl
 gathered_at-map f CountTrue d v = if-map f (is_true v) (is_true (data_map f v)) v (is_true-map f v)
 
 -- what was gathered, as plain data
-pub gathered_plain : (names : Named) (fold : Folding) (vs ws : List Value) (e v : Value) → contents_of_all ws ≡ join (contents_of_all vs) (gathered_at fold (contents e) (contents v))
-    → plain_of_all names ws ≡ join (plain_of_all names vs) (gathered_at fold (plain names e) (plain names v))
+pub gathered_plain : (names : Named) (fold : Folding) (vs ws : List Value) (e v : Value) → contents_of_all ws ≡ joined (contents_of_all vs) (gathered_at fold (contents e) (contents v))
+    → plain_of_all names ws ≡ joined (plain_of_all names vs) (gathered_at fold (plain names e) (plain names v))
 gathered_plain names fold vs ws e v is =
     let f = thing_at names in
-    ap (items_map f) is ∙ (join-map f (contents_of_all vs) (gathered_at fold (contents e) (contents v)) ∙ ap (join (plain_of_all names vs)) (gathered_at-map f fold (contents e) (contents v)))
+    ap (items_map f) is ∙ (join-map f (contents_of_all vs) (gathered_at fold (contents e) (contents v)) ∙ ap (joined (plain_of_all names vs)) (gathered_at-map f fold (contents e) (contents v)))
 
-join-known : {H : Kind → Type 0} (P : (k : Kind) → H k → Type 0) (ds es : Items H) → EachThingOfAll P ds → EachThingOfAll P es → EachThingOfAll P (join ds es)
+join-known : {H : Kind → Type 0} (P : (k : Kind) → H k → Type 0) (ds es : Items H) → EachThingOfAll P ds → EachThingOfAll P es → EachThingOfAll P (joined ds es)
 join-known P none es h k = k
 join-known P (item d ds) es h k = (h.0, join-known P ds es h.1 k)
 
@@ -89,27 +89,27 @@ at-known P AllTrue d v h k = tt
 at-known P AnyTrue d v h k = tt
 at-known P CountTrue d v h k = if-known P (is_true v) v k
 
-pub gathered_known : (names : Named) (fold : Folding) (vs ws : List Value) (e v : Value) → contents_of_all ws ≡ join (contents_of_all vs) (gathered_at fold (contents e) (contents v))
+pub gathered_known : (names : Named) (fold : Folding) (vs ws : List Value) (e v : Value) → contents_of_all ws ≡ joined (contents_of_all vs) (gathered_at fold (contents e) (contents v))
     → AllKnownIn names vs → AllKnown names e → AllKnown names v → AllKnownIn names ws
 gathered_known names fold vs ws e v is all entry value =
     subst (EachThingOfAll (IsKnown names)) (sym is) (join-known (IsKnown names) (contents_of_all vs) (gathered_at fold (contents e) (contents v)) all (at-known (IsKnown names) fold (contents e) (contents v) entry value))
 
 -- what is gathered and then finished is what the command gives
 module _ (f : Plain → Process Plain) where
-  after_values : (ds es : Items Things) → fold_on EachValue f ds es ≡ values_over f es >>= (λ vs. ask (lists (join ds vs)))
+  after_values : (ds es : Items Things) → fold_on EachValue f ds es ≡ values_over f es >>= (λ vs. ask (lists (joined ds vs)))
   after_values ds none = ap (λ xs. ask (lists xs)) (sym (join-none ds))
   after_values ds (item e es) =
-      ap (λ k. f e >>= k) (fun_ext (λ v. after_values (join ds (item v none)) es
-      ∙ (ap (λ k. values_over f es >>= k) (fun_ext (λ vs. ap (λ xs. ask (lists xs)) (join-one ds v vs))) ∙ sym (assoc (values_over f es) (λ vs. gives (item v vs)) (λ vs. ask (lists (join ds vs)))))))
-      ∙ sym (assoc (f e) (λ v. values_over f es >>= (λ vs. gives (item v vs))) (λ vs. ask (lists (join ds vs))))
+      ap (λ k. f e >>= k) (fun_ext (λ v. after_values (joined ds (item v none)) es
+      ∙ (ap (λ k. values_over f es >>= k) (fun_ext (λ vs. ap (λ xs. ask (lists xs)) (join-one ds v vs))) ∙ sym (assoc (values_over f es) (λ vs. gives (item v vs)) (λ vs. ask (lists (joined ds vs)))))))
+      ∙ sym (assoc (f e) (λ v. values_over f es >>= (λ vs. gives (item v vs))) (λ vs. ask (lists (joined ds vs))))
 
-  true_step : (d v : Plain) (ds es : Items Things) → ((ds : Items Things) → fold_on ThoseTrue f ds es ≡ true_over f es >>= (λ ts. ask (lists (join ds ts))))
-      → goes_on ThoseTrue v >>= (λ b. if b then fold_on ThoseTrue f (join ds (gathered_at ThoseTrue d v)) es else finished ThoseTrue false ds)
-      ≡ decided v (λ b. true_over f es >>= (λ ts. gives (if b then item d ts else ts))) >>= (λ ts. ask (lists (join ds ts)))
+  true_step : (d v : Plain) (ds es : Items Things) → ((ds : Items Things) → fold_on ThoseTrue f ds es ≡ true_over f es >>= (λ ts. ask (lists (joined ds ts))))
+      → goes_on ThoseTrue v >>= (λ b. if b then fold_on ThoseTrue f (joined ds (gathered_at ThoseTrue d v)) es else finished ThoseTrue false ds)
+      ≡ decided v (λ b. true_over f es >>= (λ ts. gives (if b then item d ts else ts))) >>= (λ ts. ask (lists (joined ds ts)))
   true_step d (truth true) ds es more =
-      more (join ds (item d none)) ∙ (ap (λ k. true_over f es >>= k) (fun_ext (λ ts. ap (λ xs. ask (lists xs)) (join-one ds d ts))) ∙ sym (assoc (true_over f es) (λ ts. gives (item d ts)) (λ ts. ask (lists (join ds ts)))))
+      more (joined ds (item d none)) ∙ (ap (λ k. true_over f es >>= k) (fun_ext (λ ts. ap (λ xs. ask (lists xs)) (join-one ds d ts))) ∙ sym (assoc (true_over f es) (λ ts. gives (item d ts)) (λ ts. ask (lists (joined ds ts)))))
   true_step d (truth false) ds es more =
-      ap (λ xs. fold_on ThoseTrue f xs es) (join-none ds) ∙ (more ds ∙ sym (assoc (true_over f es) (λ ts. gives ts) (λ ts. ask (lists (join ds ts)))))
+      ap (λ xs. fold_on ThoseTrue f xs es) (join-none ds) ∙ (more ds ∙ sym (assoc (true_over f es) (λ ts. gives ts) (λ ts. ask (lists (joined ds ts)))))
   true_step d (int z) ds es more = refl
   true_step d (text bs) ds es more = refl
   true_step d (list xs) ds es more = refl
@@ -117,24 +117,24 @@ module _ (f : Plain → Process Plain) where
   true_step d (semigroup h) ds es more = refl
   true_step d (ideal h) ds es more = refl
 
-  after_true : (ds es : Items Things) → fold_on ThoseTrue f ds es ≡ true_over f es >>= (λ ts. ask (lists (join ds ts)))
+  after_true : (ds es : Items Things) → fold_on ThoseTrue f ds es ≡ true_over f es >>= (λ ts. ask (lists (joined ds ts)))
   after_true ds none = ap (λ xs. ask (lists xs)) (sym (join-none ds))
   after_true ds (item e es) =
       ap (λ k. f e >>= k) (fun_ext (λ v. true_step e v ds es (λ xs. after_true xs es)))
-      ∙ sym (assoc (f e) (λ v. decided v (λ b. true_over f es >>= (λ ts. gives (if b then item e ts else ts)))) (λ ts. ask (lists (join ds ts))))
+      ∙ sym (assoc (f e) (λ v. decided v (λ b. true_over f es >>= (λ ts. gives (if b then item e ts else ts)))) (λ ts. ask (lists (joined ds ts))))
 
-  count-one : (ds es : Items Things) (d e : Plain) → entry_count (join (join ds (item d none)) es) ≡ entry_count (join ds (item e es))
+  count-one : (ds es : Items Things) (d e : Plain) → entry_count (joined (joined ds (item d none)) es) ≡ entry_count (joined ds (item e es))
   count-one none es d e = refl
   count-one (item c ds) es d e = ap suc (count-one ds es d e)
 
-  count_step : (d v : Plain) (ds es : Items Things) → ((ds : Items Things) → fold_on CountTrue f ds es ≡ true_over f es >>= (λ ts. gives (int (pos (entry_count (join ds ts))))))
-      → goes_on CountTrue v >>= (λ b. if b then fold_on CountTrue f (join ds (gathered_at CountTrue d v)) es else finished CountTrue false ds)
-      ≡ decided v (λ b. true_over f es >>= (λ ts. gives (if b then item d ts else ts))) >>= (λ ts. gives (int (pos (entry_count (join ds ts)))))
+  count_step : (d v : Plain) (ds es : Items Things) → ((ds : Items Things) → fold_on CountTrue f ds es ≡ true_over f es >>= (λ ts. gives (int (pos (entry_count (joined ds ts))))))
+      → goes_on CountTrue v >>= (λ b. if b then fold_on CountTrue f (joined ds (gathered_at CountTrue d v)) es else finished CountTrue false ds)
+      ≡ decided v (λ b. true_over f es >>= (λ ts. gives (if b then item d ts else ts))) >>= (λ ts. gives (int (pos (entry_count (joined ds ts)))))
   count_step d (truth true) ds es more =
-      more (join ds (item (truth true) none))
-      ∙ (ap (λ k. true_over f es >>= k) (fun_ext (λ ts. ap (λ n. gives (int (pos n))) (count-one ds ts (truth true) d))) ∙ sym (assoc (true_over f es) (λ ts. gives (item d ts)) (λ ts. gives (int (pos (entry_count (join ds ts)))))))
+      more (joined ds (item (truth true) none))
+      ∙ (ap (λ k. true_over f es >>= k) (fun_ext (λ ts. ap (λ n. gives (int (pos n))) (count-one ds ts (truth true) d))) ∙ sym (assoc (true_over f es) (λ ts. gives (item d ts)) (λ ts. gives (int (pos (entry_count (joined ds ts)))))))
   count_step d (truth false) ds es more =
-      ap (λ xs. fold_on CountTrue f xs es) (join-none ds) ∙ (more ds ∙ sym (assoc (true_over f es) (λ ts. gives ts) (λ ts. gives (int (pos (entry_count (join ds ts)))))))
+      ap (λ xs. fold_on CountTrue f xs es) (join-none ds) ∙ (more ds ∙ sym (assoc (true_over f es) (λ ts. gives ts) (λ ts. gives (int (pos (entry_count (joined ds ts)))))))
   count_step d (int z) ds es more = refl
   count_step d (text bs) ds es more = refl
   count_step d (list xs) ds es more = refl
@@ -142,16 +142,16 @@ module _ (f : Plain → Process Plain) where
   count_step d (semigroup h) ds es more = refl
   count_step d (ideal h) ds es more = refl
 
-  after_count : (ds es : Items Things) → fold_on CountTrue f ds es ≡ true_over f es >>= (λ ts. gives (int (pos (entry_count (join ds ts)))))
+  after_count : (ds es : Items Things) → fold_on CountTrue f ds es ≡ true_over f es >>= (λ ts. gives (int (pos (entry_count (joined ds ts)))))
   after_count ds none = ap (λ xs. gives (int (pos (entry_count xs)))) (sym (join-none ds))
   after_count ds (item e es) =
       ap (λ k. f e >>= k) (fun_ext (λ v. count_step e v ds es (λ xs. after_count xs es)))
-      ∙ sym (assoc (f e) (λ v. decided v (λ b. true_over f es >>= (λ ts. gives (if b then item e ts else ts)))) (λ ts. gives (int (pos (entry_count (join ds ts))))))
+      ∙ sym (assoc (f e) (λ v. decided v (λ b. true_over f es >>= (λ ts. gives (if b then item e ts else ts)))) (λ ts. gives (int (pos (entry_count (joined ds ts))))))
 
   all_step : (d v : Plain) (ds es : Items Things) → ((ds : Items Things) → fold_on AllTrue f ds es ≡ is_each true f es >>= (λ b. gives (truth b)))
-      → goes_on AllTrue v >>= (λ b. if b then fold_on AllTrue f (join ds (gathered_at AllTrue d v)) es else finished AllTrue false ds)
+      → goes_on AllTrue v >>= (λ b. if b then fold_on AllTrue f (joined ds (gathered_at AllTrue d v)) es else finished AllTrue false ds)
       ≡ decided v (λ c. if c then is_each true f es else gives false) >>= (λ b. gives (truth b))
-  all_step d (truth true) ds es more = more (join ds none)
+  all_step d (truth true) ds es more = more (joined ds none)
   all_step d (truth false) ds es more = refl
   all_step d (int z) ds es more = refl
   all_step d (text bs) ds es more = refl
@@ -167,10 +167,10 @@ module _ (f : Plain → Process Plain) where
       ∙ sym (assoc (f e) (λ v. decided v (λ c. if c then is_each true f es else gives false)) (λ b. gives (truth b)))
 
   any_step : (d v : Plain) (ds es : Items Things) → ((ds : Items Things) → fold_on AnyTrue f ds es ≡ is_each false f es >>= (λ b. gives (truth b)))
-      → goes_on AnyTrue v >>= (λ b. if b then fold_on AnyTrue f (join ds (gathered_at AnyTrue d v)) es else finished AnyTrue false ds)
+      → goes_on AnyTrue v >>= (λ b. if b then fold_on AnyTrue f (joined ds (gathered_at AnyTrue d v)) es else finished AnyTrue false ds)
       ≡ decided v (λ c. if not c then is_each false f es else gives true) >>= (λ b. gives (truth b))
   any_step d (truth true) ds es more = refl
-  any_step d (truth false) ds es more = more (join ds none)
+  any_step d (truth false) ds es more = more (joined ds none)
   any_step d (int z) ds es more = refl
   any_step d (text bs) ds es more = refl
   any_step d (list xs) ds es more = refl

@@ -4,11 +4,10 @@ use Rattle.sg_value.specs.Known.{Known, named}
 use Rattle.std.proofs.Math.Path.{fun_ext}
 use Rattle.std.proofs.lemmas.List.{drop_more}
 use Rattle.std.specs.Option.{option_map}
-use Rattle.sg_value.specs.Data.{Items, none, item}
+use Rattle.sg_value.specs.Data.{Items, none, item, joined}
 use Rattle.sg_value.specs.Plain.{Named, plain_of_all, Things}
 use Rattle.sg_value.specs.declared.value.Value.{Value}
 use Rattle.sg_rows.specs.Order.{Plain}
-use Rattle.sg_rows.specs.Words.{join}
 use Rattle.std.specs.Prelude.{⊤}
 use Rattle.sg_store.specs.Interned.{Keeps}
 use Rattle.sg_calls.specs.Commands.{checked}
@@ -39,12 +38,12 @@ count-arguments (g ∷ gs) = ap suc (count-arguments gs)
 
 abbrev pub joined_where : Option (Items Things) → Option (Items Things) → Option (Items Things)
 joined_where None ds = None
-joined_where (Some es) ds = option_map (join es) ds
+joined_where (Some es) ds = option_map (joined es) ds
 
 abbrev pub with_where : Option (Items Things) → Option Plain → Option (Items Things)
 with_where None d = None
 with_where (Some es) None = None
-with_where (Some es) (Some d) = Some (join es (item d none))
+with_where (Some es) (Some d) = Some (joined es (item d none))
 
 -- the values so far, before those of the arguments that are left
 abbrev pub after_given : Vars → Arguments → Option (Items Things) → Process (Option (Items Things))

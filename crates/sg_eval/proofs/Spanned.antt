@@ -5,16 +5,17 @@ use Rattle.std.specs.Prelude.{FitsSigned}
 use Rattle.std.specs.Int.{w64}
 use Rattle.std.proofs.lemmas.Int.{ints}
 use Rattle.std.proofs.Math.IntN.{+ℤ_assoc, +ℤ_idr}
-use Rattle.sg_value.specs.Data.{int, list, none, item, items_map, depth_of_all, weight_of_all, EachThingOfAll, Kind}
+use Rattle.sg_value.specs.Data.{int, list, none, item, items_map, depth_of_all, weight_of_all, EachThingOfAll, Kind, joined}
 use Rattle.sg_value.specs.Plain.{Named, Things, contents, contents_of_all, plain, thing_at}
 use Rattle.sg_value.specs.declared.value.Value.{Value}
 use Rattle.sg_rows.specs.Order.{Reply, fits, IsReply, Delivers}
-use Rattle.sg_rows.specs.Kinds.{as_integer, given, answers}
-use Rattle.sg_rows.specs.Words.{join}
+use Rattle.sg_rows.specs.Kinds.{as_integer, given}
+use Rattle.sg_rows.specs.Values.{answers}
 use Rattle.sg_rows.specs.declared.fault.Fault.{Fault}
 use Rattle.sg_rows.specs.declared.fault.Fault.TheVariants.{WrongType, TooLarge}
 use Rattle.sg_rows.specs.declared.fault.CallFault.TheVariants.{Script}
-use Rattle.sg_rows.proofs.Replying.{as_integer-plain, delivered, answers_pass}
+use Rattle.sg_rows.proofs.Replying.{delivered, answers_pass}
+use Rattle.sg_rows.proofs.KindLemmas.{as_integer-plain}
 use Rattle.sg_eval.specs.Entries.{integers_in}
 use Rattle.sg_eval.specs.Expressions.{ask}
 use Rattle.sg_eval.specs.Outcomes.{Evaluates}
@@ -24,21 +25,21 @@ use Rattle.sg_eval.specs.State.{State}
 use Rattle.sg_eval.proofs.Evaluating.{keeps_all}
 
 -- one integer more
-pub integers_in-more : {H : Kind → Type 0} (z : ℤ) (n : ℕ) → join (integers_in {H = H} z n) (item (int (z +ℤ pos n)) none) ≡ integers_in z (suc n)
+pub integers_in-more : {H : Kind → Type 0} (z : ℤ) (n : ℕ) → joined (integers_in {H = H} z n) (item (int (z +ℤ pos n)) none) ≡ integers_in z (suc n)
 integers_in-more z zero = ap (λ y. item (int y) none) (+ℤ_idr z)
 integers_in-more z (suc n) =
     let next : 1 + n ≡ suc n = omega arith in
     let e : (z +ℤ pos 1) +ℤ pos n ≡ z +ℤ pos (suc n) = +ℤ_assoc z (pos 1) (pos n) ∙ ap (λ k. z +ℤ pos k) next in
-    ap (item (int z)) (ap (λ y. join (integers_in (z +ℤ pos 1) n) (item (int y) none)) (sym e) ∙ integers_in-more (z +ℤ pos 1) n)
+    ap (item (int z)) (ap (λ y. joined (integers_in (z +ℤ pos 1) n) (item (int y) none)) (sym e) ∙ integers_in-more (z +ℤ pos 1) n)
 
-pub contents-more : (vs : List Value) (v : Value) → contents_of_all (vs ++ v ∷ []) ≡ join (contents_of_all vs) (item (contents v) none)
+pub contents-more : (vs : List Value) (v : Value) → contents_of_all (vs ++ v ∷ []) ≡ joined (contents_of_all vs) (item (contents v) none)
 contents-more [] v = refl
 contents-more (u ∷ vs) v = ap (item (contents u)) (contents-more vs v)
 
 pub integers_pushed : (vs ws : List Value) (v : Value) (z : ℤ) (i : ℕ) → ws ≡ vs ++ v ∷ [] → contents v ≡ int (z +ℤ pos i) → contents_of_all vs ≡ integers_in z i → contents_of_all ws ≡ integers_in z (i + 1)
 integers_pushed vs ws v z i is seen so_far =
     let next : suc i ≡ i + 1 = omega arith in
-    ap contents_of_all is ∙ (contents-more vs v ∙ (ap (λ d. join (contents_of_all vs) (item d none)) seen ∙ (ap (λ ds. join ds (item (int (z +ℤ pos i)) none)) so_far ∙ (integers_in-more z i ∙ ap (integers_in z) next))))
+    ap contents_of_all is ∙ (contents-more vs v ∙ (ap (λ d. joined (contents_of_all vs) (item d none)) seen ∙ (ap (λ ds. joined ds (item (int (z +ℤ pos i)) none)) so_far ∙ (integers_in-more z i ∙ ap (integers_in z) next))))
 
 pub integers_map : {H : Kind → Type 0} (f : (k : Kind) → H k → Things k) (z : ℤ) (n : ℕ) → items_map f (integers_in z n) ≡ integers_from z n
 integers_map f z zero = refl

@@ -2,11 +2,10 @@
 use Rattle.std.proofs.Common.{◌≡◌, ◌<◌, ◌+◌, ℕ, List, [], ◌∷◌, ◌++◌, length, get_or, drop, Bool, true, false, Some, None, Result, Ok, Err, IsErrAnd, Vec, Global, refl, ap, sym, ◌∙◌, subst}
 use Rattle.std.proofs.Math.Path.{fun_ext}
 use Rattle.std.proofs.lemmas.List.{drop_more}
-use Rattle.sg_value.specs.Data.{Data, Items, none, item, truth, int, text, list, fail, semigroup, ideal, Kind}
+use Rattle.sg_value.specs.Data.{Data, Items, none, item, truth, int, text, list, fail, semigroup, ideal, Kind, joined}
 use Rattle.sg_value.specs.Plain.{Named, AllKnown, AllKnownIn, plain, plain_of_all, Things}
 use Rattle.sg_value.specs.declared.value.Value.{Value}
 use Rattle.sg_rows.specs.Order.{Plain}
-use Rattle.sg_rows.specs.Words.{join}
 use Rattle.sg_rows.specs.declared.fault.CallFault.{CallFault}
 use Rattle.sg_tree.specs.Tree.{Tree, Trees, no_trees, tree, Links, link}
 use Rattle.sg_tree.specs.TreeView.{tree_of, trees_of, links_of}
@@ -50,41 +49,41 @@ module _ (ps : Vars) (s s1 : State) (t : Tree) (same : s.parameters ≡ ps) wher
       (evaluates_exit plain AllKnown plain AllKnown r e s s1 (λ names. placed ps (plain names v) t) (λ names d. eval_places ps d ts) failed
       (subst (λ qs. Evaluates plain AllKnown (Err e) s s1 (λ names. placed qs (plain names v) t)) same h))
 
-pub join-one : {H : Kind → Type 0} (ds : Items H) (d : Data H) (es : Items H) → join (join ds (item d none)) es ≡ join ds (item d es)
+pub join-one : {H : Kind → Type 0} (ds : Items H) (d : Data H) (es : Items H) → joined (joined ds (item d none)) es ≡ joined ds (item d es)
 join-one none d es = refl
 join-one (item c ds) d es = ap (item c) (join-one ds d es)
 
-pub plain_of_all-more : (names : Named) (vs : List Value) (v : Value) → plain_of_all names (vs ++ v ∷ []) ≡ join (plain_of_all names vs) (item (plain names v) none)
+pub plain_of_all-more : (names : Named) (vs : List Value) (v : Value) → plain_of_all names (vs ++ v ∷ []) ≡ joined (plain_of_all names vs) (item (plain names v) none)
 plain_of_all-more names [] v = refl
 plain_of_all-more names (u ∷ vs) v = ap (item (plain names u)) (plain_of_all-more names vs v)
 
 -- the values so far, before those of the expressions that are left
 abbrev pub after_front : Vars → Trees → Items Things → Process (Items Things)
-after_front ps ts ds = eval_all ps ts >>= (λ es. gives (join ds es))
+after_front ps ts ds = eval_all ps ts >>= (λ es. gives (joined ds es))
 
-front_step : (ps : Vars) (t : Tree) (ts : Trees) (ds : Items Things) → eval ps t >>= (λ d. after_front ps ts (join ds (item d none))) ≡ after_front ps (tree t ts) ds
+front_step : (ps : Vars) (t : Tree) (ts : Trees) (ds : Items Things) → eval ps t >>= (λ d. after_front ps ts (joined ds (item d none))) ≡ after_front ps (tree t ts) ds
 front_step ps t ts ds =
-    ap (λ k. eval ps t >>= k) (fun_ext (λ d. ap (λ k. eval_all ps ts >>= k) (fun_ext (λ es. ap gives (join-one ds d es))) ∙ sym (assoc (eval_all ps ts) (λ es. gives (item d es)) (λ es. gives (join ds es)))))
-    ∙ sym (assoc (eval ps t) (λ d. eval_all ps ts >>= (λ es. gives (item d es))) (λ es. gives (join ds es)))
+    ap (λ k. eval ps t >>= k) (fun_ext (λ d. ap (λ k. eval_all ps ts >>= k) (fun_ext (λ es. ap gives (join-one ds d es))) ∙ sym (assoc (eval_all ps ts) (λ es. gives (item d es)) (λ es. gives (joined ds es)))))
+    ∙ sym (assoc (eval ps t) (λ d. eval_all ps ts >>= (λ es. gives (item d es))) (λ es. gives (joined ds es)))
 
 module _ (ps : Vars) (s s1 : State) (t : Tree) (ts : Trees) (vs : List Value) (same : s.parameters ≡ ps) where
   -- one value more
   pub value_then : (v : Value) (ws : List Value) (r : Result (Vec Value Global) CallFault) (s2 : State) → ws ≡ vs ++ v ∷ [] → Evaluates plain AllKnown (Ok v) s s1 (λ names. eval s.parameters t)
       → Evaluates plain_in known_in r s1 s2 (λ names. after_front ps ts (plain_of_all names ws)) → Evaluates plain_in known_in r s s2 (λ names. after_front ps (tree t ts) (plain_of_all names vs))
   value_then v ws r s2 is h g =
-      evaluates_as plain_in known_in r s s2 (λ names. eval ps t >>= (λ d. after_front ps ts (join (plain_of_all names vs) (item d none)))) (λ names. after_front ps (tree t ts) (plain_of_all names vs))
+      evaluates_as plain_in known_in r s s2 (λ names. eval ps t >>= (λ d. after_front ps ts (joined (plain_of_all names vs) (item d none)))) (λ names. after_front ps (tree t ts) (plain_of_all names vs))
       (λ names. front_step ps t ts (plain_of_all names vs))
-      (evaluates_then plain AllKnown plain_in known_in v r s s1 s2 (λ names. eval ps t) (λ names d. after_front ps ts (join (plain_of_all names vs) (item d none)))
+      (evaluates_then plain AllKnown plain_in known_in v r s s1 s2 (λ names. eval ps t) (λ names d. after_front ps ts (joined (plain_of_all names vs) (item d none)))
       (subst (λ qs. Evaluates plain AllKnown (Ok v) s s1 (λ names. eval qs t)) same h)
-      (evaluates_as plain_in known_in r s1 s2 (λ names. after_front ps ts (plain_of_all names ws)) (λ names. after_front ps ts (join (plain_of_all names vs) (item (plain names v) none)))
+      (evaluates_as plain_in known_in r s1 s2 (λ names. after_front ps ts (plain_of_all names ws)) (λ names. after_front ps ts (joined (plain_of_all names vs) (item (plain names v) none)))
       (λ names. ap (after_front ps ts) (ap (plain_of_all names) is ∙ plain_of_all-more names vs v)) g))
 
   pub value_exit : (r : Result (Vec Value Global) CallFault) (e : CallFault) → IsErrAnd r (λ y. y ≡ e) → Evaluates plain AllKnown (Err e) s s1 (λ names. eval s.parameters t)
       → Evaluates plain_in known_in r s s1 (λ names. after_front ps (tree t ts) (plain_of_all names vs))
   value_exit r e failed h =
-      evaluates_as plain_in known_in r s s1 (λ names. eval ps t >>= (λ d. after_front ps ts (join (plain_of_all names vs) (item d none)))) (λ names. after_front ps (tree t ts) (plain_of_all names vs))
+      evaluates_as plain_in known_in r s s1 (λ names. eval ps t >>= (λ d. after_front ps ts (joined (plain_of_all names vs) (item d none)))) (λ names. after_front ps (tree t ts) (plain_of_all names vs))
       (λ names. front_step ps t ts (plain_of_all names vs))
-      (evaluates_exit plain AllKnown plain_in known_in r e s s1 (λ names. eval ps t) (λ names d. after_front ps ts (join (plain_of_all names vs) (item d none))) failed
+      (evaluates_exit plain AllKnown plain_in known_in r e s s1 (λ names. eval ps t) (λ names d. after_front ps ts (joined (plain_of_all names vs) (item d none))) failed
       (subst (λ qs. Evaluates plain AllKnown (Err e) s s1 (λ names. eval qs t)) same h))
 
 -- what is left of a chain once it is known whether it ends
@@ -159,7 +158,7 @@ right_unit (writes bs p) = ap (writes bs) (right_unit p)
 pub front_none : (ps : Vars) (ts : Trees) (names : Named) (vs : List Value) → vs ≡ [] → after_front ps ts (plain_of_all names vs) ≡ eval_all ps ts
 front_none ps ts names vs is = ap (λ ws. after_front ps ts (plain_of_all names ws)) is ∙ right_unit (eval_all ps ts)
 
-pub join-none : {H : Kind → Type 0} (ds : Items H) → join ds none ≡ ds
+pub join-none : {H : Kind → Type 0} (ds : Items H) → joined ds none ≡ ds
 join-none none = refl
 join-none (item d ds) = ap (item d) (join-none ds)
 

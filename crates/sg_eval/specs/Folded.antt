@@ -1,12 +1,12 @@
 -- A command with an arrow, entry by entry.
 use Rattle.std.specs.Prelude.{Bool, true, false, not, pos, Option, Some, None, ◌∷◌, if◌then◌else◌}
 use Rattle.sg_value.specs.Plain.{Things}
-use Rattle.sg_value.specs.Data.{Data, int, truth, text, list, fail, semigroup, ideal, Items, none, item, Kind}
+use Rattle.sg_value.specs.Data.{Data, int, truth, text, list, fail, semigroup, ideal, Items, none, item, Kind, joined}
 use Rattle.sg_tree.specs.Tree.{Argument, plain as plain_argument, arrow}
 use Rattle.sg_rows.specs.declared.fault.Fault.TheVariants.{WrongType}
 use Rattle.sg_rows.specs.Kinds.{as_list}
 use Rattle.sg_rows.specs.Order.{Plain}
-use Rattle.sg_rows.specs.Words.{entry_count, join}
+use Rattle.sg_rows.specs.Entries.{entry_count}
 use Rattle.sg_eval.specs.declared.folding.Folding.{Folding}
 use Rattle.sg_eval.specs.declared.folding.Folding.TheVariants.{EachValue, ThoseTrue, AllTrue, AnyTrue, CountTrue}
 use Rattle.sg_eval.specs.Expressions.{eval, folded, decided, listed, ask}
@@ -51,7 +51,7 @@ finished CountTrue all ds = gives (int (pos (entry_count ds)))
 -- the entries that are left, after what was gathered
 abbrev pub fold_on : Folding → (Plain → Process Plain) → Items Things → Items Things → Process Plain
 fold_on fold f ds none = finished fold true ds
-fold_on fold f ds (item e es) = f e >>= (λ v. goes_on fold v >>= (λ b. if b then fold_on fold f (join ds (gathered_at fold e v)) es else finished fold false ds))
+fold_on fold f ds (item e es) = f e >>= (λ v. goes_on fold v >>= (λ b. if b then fold_on fold f (joined ds (gathered_at fold e v)) es else finished fold false ds))
 
 -- the entries of a value that may be missing, or it is refused
 abbrev pub listed_if : {A : Type 0} → Option Plain → (Items Things → Process A) → Process A

@@ -3,7 +3,7 @@
 ghost use Rattle.std.specs.Prelude.{◌≡◌, OnOk, IfOk, slice_get};
 ghost use Rattle.sg_value.specs.Known.{named};
 ghost use Rattle.sg_value.specs.Plain.{AllKnown, AllKnownIn, contents, contents_of_all, plain, plain_of_all};
-ghost use Rattle.sg_rows.specs.Words.{join};
+ghost use Rattle.sg_value.specs.Data.{joined};
 ghost use Rattle.sg_eval.specs.Expressions.{folding_named};
 ghost use Rattle.sg_eval.specs.Folded.{goes_on, gathered_at, finished, is_true, listed_if};
 ghost use Rattle.sg_eval.specs.Given.{plain_if, known_if};
@@ -87,7 +87,7 @@ pub fn gather(
     value: Value,
     gathered: &mut Vec<Value>,
 ) -> Result<(), AllocError>
-    ensures { OnOk result (contents_of_all gathered.new.items ≡ join (contents_of_all gathered.old.items) (gathered_at fold (contents entry.now) (contents value))) }
+    ensures { OnOk result (contents_of_all gathered.new.items ≡ joined (contents_of_all gathered.old.items) (gathered_at fold (contents entry.now) (contents value))) }
 {
     match fold {
         Folding::EachValue => put(gathered, value),

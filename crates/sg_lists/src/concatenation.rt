@@ -2,24 +2,19 @@
 
 ghost use Rattle.std.specs.Prelude.{◌≡◌, ◌<◌, ◌≤◌, ◌-◌, ◌^◌, ◌↔◌, ℕ, List, Some, IsSome, IsTrue, IfOk, OnOk, min, slice_get};
 ghost use Rattle.sg_value.specs.Known.{Known, named};
-ghost use Rattle.sg_value.specs.Data.{Items, weight_of_all, depth_of_all};
+ghost use Rattle.sg_value.specs.Data.{Items, joined, weight_of_all, depth_of_all};
 ghost use Rattle.sg_value.specs.Plain.{AllKnownIn, contents, contents_of_all, plain_of_all, Places};
 ghost use Rattle.sg_rows.specs.Kinds.{as_list};
-ghost use Rattle.sg_rows.specs.Words.{join};
-ghost use Rattle.sg_lists.specs.Words.{joined};
-ghost use Rattle.sg_lists.specs.Lists.{concatenation_of};
+ghost use Rattle.sg_lists.specs.Concatenations.{concatenated, concatenation_of};
 ghost use Rattle.sg_rows.specs.Replies.{Replies};
 
 use sg_rows::{CallFault, Fault, entries_of, is_heavy};
-use sg_value::{Items as Entries, Value, depth, try_clone, weight};
+use sg_value::{Items as Entries, NESTING_LIMIT, Value, WEIGHT_LIMIT, depth, try_clone, weight};
 use std::alloc::{AllocError, Global};
-
-/// How deep lists may nest.
-const DEPTH_LIMIT: u64 = 64;
 
 /// Whether all are lists.
 fn are_lists(values: &[Value]) -> bool
-    ensures { IsTrue result ↔ IsSome (joined (contents_of_all values.now)) }
+    ensures { IsTrue result ↔ IsSome (concatenated (contents_of_all values.now)) }
 {
     for value in values {
         if entries_of(value).is_none() {
@@ -31,10 +26,10 @@ fn are_lists(values: &[Value]) -> bool
 
 /// Whether some value nests too deep.
 fn are_deep(values: &[Value]) -> bool
-    ensures { IsTrue result ↔ (64 < depth_of_all (contents_of_all values.now)) }
+    ensures { IsTrue result ↔ (NESTING_LIMIT < depth_of_all (contents_of_all values.now)) }
 {
     for value in values {
-        if depth(value) > DEPTH_LIMIT {
+        if depth(value) > NESTING_LIMIT {
             return true;
         }
     }
@@ -54,14 +49,14 @@ fn total_weight(values: &[Value]) -> u64
 
 /// Whether the entries of the lists are too heavy for one list. Each list weighs 1 more than its entries.
 fn are_heavy(lists: &[Value]) -> bool
-    ensures { (ds : Items Places) → joined (contents_of_all lists.now) ≡ Some ds → IsTrue result ↔ (4194304 ≤ weight_of_all ds) }
+    ensures { (ds : Items Places) → concatenated (contents_of_all lists.now) ≡ Some ds → IsTrue result ↔ (WEIGHT_LIMIT ≤ weight_of_all ds) }
 {
     is_heavy(total_weight(lists).saturating_sub(lists.len() as u64))
 }
 
 /// Puts copies of the entries last.
 fn add_copies(alloc: Global, copies: &mut Vec<Value>, entries: &[Value]) -> Result<(), AllocError>
-    ensures { OnOk result (contents_of_all copies.new.items ≡ join (contents_of_all copies.old.items) (contents_of_all entries.now)) }
+    ensures { OnOk result (contents_of_all copies.new.items ≡ joined (contents_of_all copies.old.items) (contents_of_all entries.now)) }
 {
     for entry in entries {
         copies.push(try_clone(entry, alloc)?)?;
@@ -71,7 +66,7 @@ fn add_copies(alloc: Global, copies: &mut Vec<Value>, entries: &[Value]) -> Resu
 
 /// Puts copies of the entries of a list last.
 fn add_entries(alloc: Global, copies: &mut Vec<Value>, list: &Value) -> Result<(), AllocError>
-    ensures { OnOk result ((xs : Items Places) → as_list (contents list.now) ≡ Some xs → contents_of_all copies.new.items ≡ join (contents_of_all copies.old.items) xs) }
+    ensures { OnOk result ((xs : Items Places) → as_list (contents list.now) ≡ Some xs → contents_of_all copies.new.items ≡ joined (contents_of_all copies.old.items) xs) }
 {
     match entries_of(list) {
         Some(entries) => add_copies(alloc, copies, entries),
@@ -81,7 +76,7 @@ fn add_entries(alloc: Global, copies: &mut Vec<Value>, list: &Value) -> Result<(
 
 /// Copies of the entries of all lists.
 fn copies_of_all(alloc: Global, lists: &[Value]) -> Result<Vec<Value>, AllocError>
-    ensures { IfOk result (λ vs. (ds : Items Places) → joined (contents_of_all lists.now) ≡ Some ds → contents_of_all vs.items ≡ ds) }
+    ensures { IfOk result (λ vs. (ds : Items Places) → concatenated (contents_of_all lists.now) ≡ Some ds → contents_of_all vs.items ≡ ds) }
 {
     let mut copies = Vec::new(alloc);
     for list in lists {

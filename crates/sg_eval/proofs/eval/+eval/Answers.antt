@@ -4,11 +4,11 @@ use Rattle.std.specs.Int.{w64}
 use Rattle.std.proofs.lemmas.Int.{to_z-of_z}
 use Rattle.sg_value.specs.declared.value.Value.TheVariants as value
 use Rattle.sg_value.specs.Known.{named}
-use Rattle.sg_value.specs.Data.{truth, EachThingOfAll}
+use Rattle.sg_value.specs.Data.{truth, EachThingOfAll, none, item as item_of}
 use Rattle.sg_value.specs.Plain.{AllKnown, AllKnownIn, IsKnown, plain, plain_of_all}
-use Rattle.sg_tree.specs.Tree.{call, variable, display, span, item, minus, negation, chain, compare}
-use Rattle.sg_tree.specs.TreeView.{tree_of, trees_of, links_of}
-use Rattle.sg_tree.proofs.ExpressionLevels.{view-Var, view-Display, view-Span, view-Item, view-Minus, view-Not, view-Chain, view-Compare}
+use Rattle.sg_tree.specs.Tree.{call, variable, display, span, item, minus, negation, chain, compare, no_trees}
+use Rattle.sg_tree.specs.TreeView.{tree_of, trees_of, links_of, argument_of, arguments_of}
+use Rattle.sg_tree.proofs.ExpressionLevels.{view-Var, view-Display, view-Span, view-Item, view-Minus, view-Not, view-Chain, view-Compare, view-Plain, view-Arrow, view-Call}
 use Rattle.sg_eval.specs.Expressions.{folded, eval, eval_all, eval_places, eval_links, negated, turned, decided, ask, relation, eval_given, eval_folding, plain_alone}
 use Rattle.sg_eval.specs.Linked.{placed, linked, ends_chain, compared_with, next_from, items_from, start_of}
 use Rattle.sg_eval.specs.Machine.{state_of}
@@ -18,21 +18,16 @@ use Rattle.sg_eval.specs.Queries.{lists, combines, indexes, spans, calls}
 use Rattle.sg_eval.proofs.Evaluating.{evaluates_exit, evaluates_then, evaluates_on, evaluates_gives, evaluates_as, evaluates_memory, known_later, all_known_later, evaluates_bound, evaluates_bound_exit, evaluates_later, plain_later}
 use Rattle.sg_eval.proofs.Later.{copy_plain}
 use Rattle.std.proofs.lemmas.List.{drop_all}
-use Rattle.sg_tree.specs.TreeView.{argument_of, arguments_of}
-use Rattle.sg_tree.proofs.ExpressionLevels.{view-Plain, view-Arrow, view-Call}
 use Rattle.sg_rows.specs.declared.fault.CallFault.TheVariants.{Script}
 use Rattle.sg_rows.specs.declared.fault.Fault.TheVariants.{WrongType, WrongCount}
 use Rattle.sg_eval.specs.Given.{plain_if, known_if, plain_where, known_where, eval_argument}
 use Rattle.sg_eval.proofs.GivenSteps.{arguments_of-drop, after_given, given_none, given_over, known_with, known_where_later, count_with, given_then, given_exit, call_right, call_wrong, call_folds, evaluates_refuses}
-use Rattle.sg_eval.proofs.Steps.{trees_of-drop, links_of-drop, place_then, place_exit, value_then, value_exit, link_then, link_exit, link_as, unless_ended, front_none, front_over, after_front, all_known_more, link_rest, linked_as, linked_combines, rest_decides}
+use Rattle.sg_eval.proofs.Steps.{trees_of-drop, links_of-drop, place_then, place_exit, value_then, value_exit, link_then, link_exit, link_as, unless_ended, front_none, front_over, after_front, all_known_more, link_rest, linked_as, linked_combines, rest_decides, right_unit}
 use Rattle.sg_eval.specs.Truths.{itself, no_semigroup}
-use Rattle.sg_value.specs.Data.{none, item as item_of}
 use Rattle.sg_rows.specs.Order.{Plain}
 use Rattle.sg_eval.specs.Folded.{goes_on, fold_on, fold_rest, listed_if}
 use Rattle.sg_tree.specs.declared.expr.Expr.{the_lemmas}
 use Rattle.sg_tree.specs.declared.expr.Arg.{the_lemmas as argument_lemmas}
-use Rattle.sg_tree.specs.Tree.{no_trees}
-use Rattle.sg_eval.proofs.Steps.{right_unit}
 use Rattle.sg_eval.proofs.Borrowed.{entry_only, from_then, from_exit}
 use Rattle.sg_eval.proofs.FoldSteps.{gathered_known, gathered_plain, fold_is}
 use Rattle.sg_eval.proofs.FoldLoop.{wrong_count, fold_as, second_is, listed_if_bind, plain_of_all-drop, known_at, entry_exit, value_wrong, entry_then, entry_gathered}

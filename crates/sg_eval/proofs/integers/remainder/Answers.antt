@@ -1,7 +1,7 @@
 use Rattle.std.proofs.Common.{◌≡◌, pos, sym, subst, rules}
 use Rattle.std.specs.Prelude.{FitsSigned}
 use Rattle.std.specs.Int.{w64, int_rem_euclid}
-use Rattle.sg_calls.specs.Words.{IsRemainder}
+use Rattle.sg_calls.specs.Remainders.{IsRemainder}
 use Rattle.sg_calls.proofs.Remainders.{remainder_is}
 use Rattle.sg_rows.proofs.Signed.{of_bits}
 use Rattle.std.proofs.lemmas.Int.{to_z-of_z}

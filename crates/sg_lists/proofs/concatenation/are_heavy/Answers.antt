@@ -1,12 +1,12 @@
 use Rattle.std.proofs.Common.{◌<◌, ◌^◌, length, arith, rules}
 use Rattle.sg_value.specs.Plain.{contents_of_all}
-use Rattle.sg_lists.proofs.Joining.{weight-joined, entry_count-contents}
+use Rattle.sg_lists.proofs.Joining.{weight-concatenated, entry_count-contents}
 use Rattle.sg_lists.proofs.concatenation.are_heavy.Goals as goal
 
 pub returns : goal.returns
 returns c = λ ds is.
     let vs = c.args.lists.now in
-    let whole = weight-joined (contents_of_all vs) ds is in
+    let whole = weight-concatenated (contents_of_all vs) ds is in
     let count = entry_count-contents vs in
     let few : length vs < 2 ^ 63 = search rules in
     let total = c.total_weight.ensures in
