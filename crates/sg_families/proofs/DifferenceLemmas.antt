@@ -97,6 +97,10 @@ prefix-gcd G more (suc i) l =
       (λ d h. r.2.2 d (before.3 d (λ j m. h j (omega arith))) (h i (omega arith))),
     )
 
+-- the differences have a greatest common divisor
+pub difference_gcd-exists : (G : List ℕ) → ((j : ℕ) → j < length G → get_or G 0 0 ≤ get_or G j 0) → (g : ℕ) × IsDifferenceGcd G g
+difference_gcd-exists G more = let p = prefix-gcd G more (length G) (omega arith) in (p.0, record { divides = p.2; greatest = p.3 })
+
 gcd-is_difference : (G : List ℕ) (g : ℕ) → ((j : ℕ) → j < length G → get_or G 0 0 ≤ get_or G j 0) → IsDifferenceGcd G g → IsDifference G g
 gcd-is_difference G g more h =
     let p = prefix-gcd G more (length G) (omega arith) in

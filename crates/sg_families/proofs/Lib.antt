@@ -12,3 +12,5 @@ pub mod DifferenceLemmas
 pub mod PlaceClasses
 pub mod ClassOrder
 pub mod BettiLemmas
+pub mod NumbersExist
+pub mod DegreesExist
