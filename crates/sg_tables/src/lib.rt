@@ -5,12 +5,17 @@
 //! whether a list is the Apery list of some semigroup, whose minimal generators `kunz_generators` gives.
 #![tactic(auto)]
 
+mod circles;
+mod few;
 mod filling;
 mod kunz;
 mod minimal;
+mod modulus;
 mod relaxation;
 mod sums;
 
+pub use few::take_all;
 pub use filling::apery_list;
 pub use kunz::{is_kunz, kunz_generators};
 pub use minimal::minimal_part;
+pub use modulus::list_modulo;
