@@ -7,13 +7,18 @@
 //! (2006).
 #![tactic(auto)]
 
+mod coins;
 mod deltas;
 mod greatest;
 pub mod laws;
+mod length_table;
+mod limits;
 mod quotient;
 #[cfg(test)]
 mod tests;
 
 pub use deltas::delta_of;
 pub use greatest::greatest_factorization;
+pub use length_table::{LengthTable, least_lengths, lengths};
+pub use limits::LENGTH_LIMIT;
 pub use quotient::{elasticity, elasticity_of};
