@@ -5,7 +5,7 @@ use Rattle.std.proofs.lemmas.List.{take_at, drop_at, take-append-drop}
 use Rattle.std.proofs.lemmas.Bool.{cases_Bool, both_ways, and_parts, and_from}
 use Rattle.sg_cut.specs.Lexemes.{IsLexeme, AreLexemes}
 use Rattle.sg_cut.specs.Cut.{Begins, starts_ignored}
-use Rattle.sg_cut.proofs.FirstLexeme.{same_lexeme, lexeme_some, first_lexeme, first_size}
+use Rattle.sg_cut.proofs.FirstLexeme.{begun, same_lexeme, lexeme_some}
 
 -- the bytes begin with `begin` bytes of blanks and comments
 pub record BeginsFrom (bytes : List ℕ) (begin : ℕ) : Type 0 where
@@ -94,16 +94,12 @@ pub begin_found : (fuel : ℕ) (bytes : List ℕ) → length bytes ≤ fuel → 
 begin_found fuel [] enough = (0, begins_at_once [] refl)
 begin_found zero (b ∷ bytes) enough = absurd (omega arith)
 begin_found (suc fuel) (b ∷ bytes) enough =
-    let lexeme = take (first_size (b ∷ bytes)) (b ∷ bytes) in
-    let rest = drop (first_size (b ∷ bytes)) (b ∷ bytes) in
-    let l : IsLexeme lexeme rest = first_lexeme b bytes in
-    let parted : lexeme ++ rest ≡ b ∷ bytes = take-append-drop (first_size (b ∷ bytes)) (b ∷ bytes) in
-    let less : length rest ≤ fuel = omega (arith, ap length parted, length-append lexeme rest, lexeme_some l) in
+    let f = begun b bytes in
     ⊎_elim
     (λ (starts : starts_ignored (b ∷ bytes) ≡ true).
-    let ignored : IsTrue (starts_ignored lexeme) = sym (starts_ignored-append lexeme rest (lexeme_some l)) ∙ ap starts_ignored parted ∙ starts in
-    let more = begin_found fuel rest less in
-    (length lexeme + more.0, subst (λ bs. BeginsFrom bs (length lexeme + more.0)) parted (begins_with_lexeme l ignored more.1)))
+    let ignored : IsTrue (starts_ignored f.lexeme) = sym (starts_ignored-append f.lexeme f.rest (lexeme_some f.is)) ∙ ap starts_ignored f.parted ∙ starts in
+    let more = begin_found fuel f.rest (omega (arith, f.fewer)) in
+    (length f.lexeme + more.0, subst (λ bs. BeginsFrom bs (length f.lexeme + more.0)) f.parted (begins_with_lexeme f.is ignored more.1)))
     (λ (stops : starts_ignored (b ∷ bytes) ≡ false). (0, begins_at_once (b ∷ bytes) stops))
     (cases_Bool (starts_ignored (b ∷ bytes)))
 

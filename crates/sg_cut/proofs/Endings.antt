@@ -7,7 +7,7 @@ use Rattle.std.proofs.lemmas.Slice.Eq.{bytes_eq-Decides}
 use Rattle.std.proofs.lemmas.Bool.{cases_Bool, both_ways}
 use Rattle.sg_cut.specs.Lexemes.{IsLexeme, AreLexemes}
 use Rattle.sg_cut.specs.Cut.{Ends, depth_after}
-use Rattle.sg_cut.proofs.FirstLexeme.{same_lexeme, lexeme_some, single_first, first_lexeme, first_size}
+use Rattle.sg_cut.proofs.FirstLexeme.{begun, same_lexeme, single_first}
 
 -- the bytes behind a block depth end with the first `;` at depth 0 as the last of `size`
 pub record EndsFrom (depth : ℕ) (bytes : List ℕ) (size : ℕ) : Type 0 where
@@ -166,23 +166,19 @@ pub end_or_none : (fuel depth : ℕ) (bytes : List ℕ) → length bytes ≤ fue
 end_or_none fuel depth [] enough = inr (λ size. nothing_ends)
 end_or_none zero depth (b ∷ bytes) enough = absurd (omega arith)
 end_or_none (suc fuel) depth (b ∷ bytes) enough =
-    let lexeme = take (first_size (b ∷ bytes)) (b ∷ bytes) in
-    let rest = drop (first_size (b ∷ bytes)) (b ∷ bytes) in
-    let l : IsLexeme lexeme rest = first_lexeme b bytes in
-    let parted : lexeme ++ rest ≡ b ∷ bytes = take-append-drop (first_size (b ∷ bytes)) (b ∷ bytes) in
-    let less : length rest ≤ fuel = omega (arith, ap length parted, length-append lexeme rest, lexeme_some l) in
+    let f = begun b bytes in
     ⊎_elim
-    (λ (is : (lexeme ≡ 59 ∷ []) × (depth ≡ 0)).
-    let at_end : b ∷ bytes ≡ 59 ∷ rest = sym parted ∙ ap (λ (x : List ℕ). x ++ rest) is.0 in
-    inl (1, rw (at_end, is.1) (semicolon_ends rest)))
-    (λ (goes_on : GoesOn depth lexeme).
+    (λ (is : (f.lexeme ≡ 59 ∷ []) × (depth ≡ 0)).
+    let at_end : b ∷ bytes ≡ 59 ∷ f.rest = sym f.parted ∙ ap (λ (x : List ℕ). x ++ f.rest) is.0 in
+    inl (1, rw (at_end, is.1) (semicolon_ends f.rest)))
+    (λ (goes_on : GoesOn depth f.lexeme).
     ⊎_elim
-    (λ (e : (size : ℕ) × EndsFrom (depth_after depth lexeme) rest size).
-    inl (length lexeme + e.0, subst (λ bs. EndsFrom depth bs (length lexeme + e.0)) parted (ends_with_lexeme l goes_on e.1)))
-    (λ (none : (size : ℕ) → ¬ EndsFrom (depth_after depth lexeme) rest size).
-    inr (λ size e. let behind = ends_behind_lexeme l goes_on (subst (λ bs. EndsFrom depth bs size) (sym parted) e) in none behind.0 behind.2))
-    (end_or_none fuel (depth_after depth lexeme) rest less))
-    (ends_or_goes_on depth lexeme)
+    (λ (e : (size : ℕ) × EndsFrom (depth_after depth f.lexeme) f.rest size).
+    inl (length f.lexeme + e.0, subst (λ bs. EndsFrom depth bs (length f.lexeme + e.0)) f.parted (ends_with_lexeme f.is goes_on e.1)))
+    (λ (none : (size : ℕ) → ¬ EndsFrom (depth_after depth f.lexeme) f.rest size).
+    inr (λ size e. let behind = ends_behind_lexeme f.is goes_on (subst (λ bs. EndsFrom depth bs size) (sym f.parted) e) in none behind.0 behind.2))
+    (end_or_none fuel (depth_after depth f.lexeme) f.rest (omega (arith, f.fewer))))
+    (ends_or_goes_on depth f.lexeme)
 
 -- a lexeme that is no `;` goes on
 pub goes_on_if_other : (depth : ℕ) (lexeme text : List ℕ) (same : Bool) → same ≡ bytes_eq lexeme text → text ≡ 59 ∷ [] → same ≡ false → GoesOn depth lexeme

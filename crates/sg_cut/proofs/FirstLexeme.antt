@@ -1,9 +1,9 @@
 -- The first lexeme of some bytes: there is one, and it is determined.
-use Rattle.std.proofs.Common.{◌≡◌, ℕ, suc, ◌<◌, Bool, true, false, cond, not, ◌&&◌, ◌||◌, List, [], ◌∷◌, ◌++◌, length, get_or, take, drop, refl, sym, ap, subst, ⊎_elim, ◌∙◌, IsTrue, arith, append_assoc}
+use Rattle.std.proofs.Common.{◌≡◌, ℕ, suc, ◌<◌, Bool, true, false, cond, not, ◌&&◌, ◌||◌, List, [], ◌∷◌, ◌++◌, length, get_or, take, drop, refl, sym, ap, subst, ⊎_elim, ◌∙◌, IsTrue, arith, append_assoc, length-append}
 use Rattle.std.specs.List.{prefix_len, list_all}
 use Rattle.std.specs.Prelude.{◌==◌}
 use Rattle.std.proofs.lemmas.Bool.{cases_Bool, cond_both, and_parts, and_from, or_parts, not-true, not-false, eqb-true, not_from_true, false_from_ne_true, false≢true}
-use Rattle.std.proofs.lemmas.List.{take_at, drop_at}
+use Rattle.std.proofs.lemmas.List.{take_at, drop_at, take-append-drop}
 use Rattle.std.proofs.Math.Numerals.{one-add}
 use Rattle.sg_cut.specs.Bytes.{is_inline, is_word_byte}
 use Rattle.sg_cut.specs.Lexemes.{IsLexeme, IsWord, IsSingle, IsQuoted, IsInside, Closes, EndsRun, is_plain}
@@ -200,6 +200,28 @@ first_lexeme b bytes =
     (λ no_string. cond_both (is_word_byte b) (suc (prefix_len is_word_byte bytes)) 1 P
     (word_first b bytes)
     (λ no_word. single_first b bytes no_comment no_string no_word)))
+
+-- some bytes begin with a lexeme, and fewer stand behind it
+pub record Begun (bytes : List ℕ) : Type 0 where
+  pub lexeme : List ℕ
+  pub rest : List ℕ
+  pub is : IsLexeme lexeme rest
+  pub parted : lexeme ++ rest ≡ bytes
+  pub fewer : length rest < length bytes
+
+-- all but no bytes do
+pub begun : (b : ℕ) (bytes : List ℕ) → Begun (b ∷ bytes)
+begun b bytes =
+    let size = first_size (b ∷ bytes) in
+    let l = first_lexeme b bytes in
+    let parted : take size (b ∷ bytes) ++ drop size (b ∷ bytes) ≡ b ∷ bytes = take-append-drop size (b ∷ bytes) in
+    record {
+      lexeme = take size (b ∷ bytes);
+      rest = drop size (b ∷ bytes);
+      is = l;
+      parted = parted;
+      fewer = omega (arith, ap length parted, length-append (take size (b ∷ bytes)) (drop size (b ∷ bytes)), lexeme_some l);
+    }
 
 -- the rest of a string, at its size
 pub quoted_at : (bytes : List ℕ) (size : ℕ) → quoted_size false bytes ≡ size → IsQuoted (take size bytes) (drop size bytes)

@@ -3,17 +3,14 @@
 #![tactic(auto)]
 
 use sg_io::{StdSink, StdSource};
-use sgps_cli::run;
+use sgps_cli::{Cause, run};
 use std::env;
 use std::io::ErrorKind;
 use std::process::ExitCode;
 
-/// The status where memory for the words is refused.
-const NO_MEMORY: u8 = 5;
-
 fn main(rt: HostRuntime) -> ExitCode {
     let Some(words) = words(&rt) else {
-        return ExitCode::from(NO_MEMORY);
+        return ExitCode::from(Cause::Memory.status());
     };
     let mut source = StdSource::new(&rt);
     let mut out = StdSink::out(&rt);

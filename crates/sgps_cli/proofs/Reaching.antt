@@ -1,17 +1,17 @@
 -- A run is too long exactly where as many bytes were taken as a script may have.
 use Rattle.std.proofs.Common.{◌≡◌, ℕ, ◌<◌, List, [], ◌++◌, length, true, false, Option, Some, None, refl, sym, ap, subst, ◌∙◌, inl, inr, arith}
-use Rattle.std.specs.Prelude.{◌⊎◌, is_some, IfSome}
+use Rattle.std.specs.Prelude.{◌⊎◌, is_some}
 use Rattle.std.proofs.lemmas.List.{append_cancel_right}
 use Rattle.sg_cut.specs.declared.limits.TheConstants.{SCRIPT_LIMIT}
-use Rattle.sg_io.specs.Inputs.{Input, input_named}
-use Rattle.sg_play.specs.Record.{Ending, Played, done, refused, waiting}
+use Rattle.sg_io.specs.Inputs.{Input}
+use Rattle.sg_play.specs.Record.{Played, done, refused, waiting}
 use Rattle.sg_play.specs.Play.{Play}
 use Rattle.sg_play.proofs.Plays.{one-play, whole-ends}
-use Rattle.sgps_cli.specs.Input.{IsInput, IsTaken}
+use Rattle.sgps_cli.specs.Input.{IsTaken}
 use Rattle.sgps_cli.specs.Settings.{Wanted}
 use Rattle.sgps_cli.specs.Playing.{IsOutcome, ending_of}
-use Rattle.sgps_cli.specs.Concludes.{Concludes, concluded, left, cause_for, is_whole}
-use Rattle.sgps_cli.specs.Ends.{Seen, WaitsForMore, ReachesLimit, IsOverlongAtLimit, IsClosed, Comes, closed, stopped, nothing}
+use Rattle.sgps_cli.specs.Concludes.{Concludes, concluded, left, cause_for}
+use Rattle.sgps_cli.specs.Ends.{Seen, ReachesLimit, IsOverlongAtLimit, IsClosed, Comes, closed, stopped, nothing}
 use Rattle.sgps_cli.specs.Reports.{IsReport, told, failed, no_memory}
 use Rattle.sgps_cli.specs.declared.input.Extent.{Extent}
 use Rattle.sgps_cli.specs.declared.input.Extent.TheVariants as extent
