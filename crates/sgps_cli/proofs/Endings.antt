@@ -58,20 +58,20 @@ module _ (seen : Seen) (old new : Sinks) (f : SinkFaults) (text said : List ℕ)
   told-whole cause.Memory h e = absurd h
 
   -- a run that had written this text and this front of a line was stopped by `err`
-  stopped-by-err : IsEarly seen text said → Rose f.err_before f.err_after → FailsToWrite seen old new f
-  stopped-by-err early rose = (inr rose, inl (text, said, early, inr rose, wrote old new text said on_out on_err))
+  stopped-by-err : IsEarly seen (marked out text) said → Rose f.err_before f.err_after → FailsToWrite seen old new f
+  stopped-by-err early rose = (inr rose, inl (marked out text, said, early, inr rose, wrote old new text said on_out on_err))
 
   -- a run that had written this text, and no line, was stopped by a sink
-  stopped-by-out : IsEarly seen text [] → said ≡ [] → Rose f.out_before f.out_after ⊎ Rose f.err_before f.err_after → FailsToWrite seen old new f
-  stopped-by-out early none rose = (rose, inl (text, [], early, inl refl, subst (λ s. Wrote old new (marked out text ++ marked err s)) none (wrote old new text said on_out on_err)))
+  stopped-by-out : IsEarly seen (marked out text) [] → said ≡ [] → Rose f.out_before f.out_after ⊎ Rose f.err_before f.err_after → FailsToWrite seen old new f
+  stopped-by-out early none rose = (rose, inl (marked out text, [], early, inl refl, subst (λ s. Wrote old new (marked out text ++ marked err s)) none (wrote old new text said on_out on_err)))
 
   -- a run that had written this text ran out of memory, and wrote this front of that line
-  no-memory-then : IsEarly seen text [] → IsFrontOfLastLine cause.Memory said → RunsOut seen old new
-  no-memory-then early front = (text, [], said, front.0, early, front.1, wrote old new text said on_out on_err)
+  no-memory-then : IsEarly seen (marked out text) [] → IsFrontOfLastLine cause.Memory said → RunsOut seen old new
+  no-memory-then early front = (marked out text, [], said, front.0, early, front.1, wrote old new text said on_out on_err)
 
   -- a run that had written this text, and this front of a line, ran out of memory
-  no-memory-there : IsEarly seen text said → RunsOut seen old new
-  no-memory-there early = (text, said, [], last_line cause.Memory, early, refl, subst (λ s. Wrote old new (marked out text ++ marked err s)) (sym (append-nil said)) (wrote old new text said on_out on_err))
+  no-memory-there : IsEarly seen (marked out text) said → RunsOut seen old new
+  no-memory-there early = (marked out text, said, [], last_line cause.Memory, early, refl, subst (λ s. Wrote old new (marked out text ++ marked err s)) (sym (append-nil said)) (wrote old new text said on_out on_err))
 
   reported : (c d : Cause) → Closes c seen text → IsReport c said f.err_before f.err_after d → (c ≡ cause.WriteFault → Rose f.out_before f.out_after) → Ends d seen old new f
   reported c d (closed h) (told t) rose = subst (λ x. Ends x seen old new f) (sym t.same) (told-whole c h t.whole)
@@ -87,7 +87,7 @@ module _ (seen : Seen) (old new : Sinks) (f : SinkFaults) (text said : List ℕ)
       subst (λ x. Ends x seen old new f) (sym e) (inr risen, inr (risen, no-memory-then early (front.0, sym (ap last_line m) ∙ front.1)))
   reported c d (stopped (inl w) early) (no_memory e front) rose =
       let none = front-of-none said front.0 (sym (ap last_line w) ∙ front.1) in
-      subst (λ x. Ends x seen old new f) (sym e) (no-memory-there (subst (λ s. IsEarly seen text s) (sym none) early))
+      subst (λ x. Ends x seen old new f) (sym e) (no-memory-there (subst (λ s. IsEarly seen (marked out text) s) (sym none) early))
   reported c d (stopped (inr m) early) (no_memory e front) rose =
       subst (λ x. Ends x seen old new f) (sym e) (no-memory-then early (front.0, sym (ap last_line m) ∙ front.1))
 
@@ -111,7 +111,7 @@ same-play seen p q s =
     let wanted : s.1.wanted ≡ q.wanted = some-same seen.settings _ _ s.1.accepted q.accepted in
     let read : IsInput seen.inputs q.wanted.file s.0 = subst (λ w. IsInput seen.inputs w.file s.0) wanted s.1.input in
     let bytes : s.0 ≡ q.bytes = same-bytes seen.inputs q.listed q.wanted.file q.bytes s.0 q.told q.input read in
-    let play : p ≡ q.play = one-play (subst (λ b. Settled b p) bytes s.2) q.settled in
+    let play : p ≡ q.play = one-play false (subst (λ b. Settled b p) bytes s.2) q.settled in
     ap (λ x. x.ending) play ∙ q.ends
 
 none-accepted : {P : Type 0} (settings : Option Wanted) (w : Wanted) → settings ≡ None → settings ≡ Some w → P

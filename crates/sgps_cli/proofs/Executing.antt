@@ -1,5 +1,5 @@
 -- One turn of a play, by what was executed.
-use Rattle.std.proofs.Common.{◌≡◌, ℕ, ◌+◌, List, [], Bool, Result, Ok, Err, Some, None, refl, sym, subst, inl, inr}
+use Rattle.std.proofs.Common.{◌≡◌, ℕ, ◌+◌, List, [], Bool, false, Result, Ok, Err, Some, None, refl, sym, subst, inl, inr}
 use Rattle.std.specs.Prelude.{◌⊎◌, slice_range}
 use Rattle.sg_cut.specs.Cut.{StandsAt, Cut}
 use Rattle.sg_cut.specs.Lines.{line_of}
@@ -29,9 +29,9 @@ module _ (whole : Bool) (bytes : List ℕ) (feeds : ℕ) (vars vars' : Vars) (te
       Turns (Ok (turn.Stops verdict.Done)) bytes whole feeds vars vars' text
   quit-turn begin end r e s h passed =
       let k : Performed (Ok flow.Quit) (slice_range bytes begin end) vars vars' text = subst (λ x. Performed x (slice_range bytes begin end) vars vars' text) e h in (
-        record { written = marked out text; ending = done; place = Some (passed + begin) },
+        record { written = marked out text; refusals = []; ending = done; place = Some (passed + begin) },
         last (Statement begin end) s (a_tree k.0, k.1, (Ok ended, vars', text, k.2, refl)),
-        record { ends = refl; wrote = refl },
+        record { ends = refl; wrote = refl; passed_none = refl },
       )
 
   -- a statement was refused
@@ -40,23 +40,23 @@ module _ (whole : Bool) (bytes : List ℕ) (feeds : ℕ) (vars vars' : Vars) (te
   refused-turn begin end r f t e is s h =
       let k : Performed (Err (fault.Script f)) (slice_range bytes begin end) vars vars' text = subst (λ x. Performed x (slice_range bytes begin end) vars vars' text) e h in
       subst (λ x. Turns (Ok x) bytes whole feeds vars vars' text) (sym is) (λ passed. (
-        record { written = marked out text; ending = refused f (feeds + line_of bytes begin); place = Some (passed + begin) },
+        record { written = marked out text; refusals = []; ending = refused f (feeds + line_of bytes begin); place = Some (passed + begin) },
         last (Statement begin end) s (k.0, k.1, k.2 (passed + begin) (feeds + line_of bytes begin)),
-        record { ends = refl; wrote = refl },
+        record { ends = refl; wrote = refl; passed_none = refl },
       ))
 
   -- a statement was left, or none was executed
   left-part : (begin end : ℕ) → StandsAt bytes begin end →
-      ((c : Code) × IsReadAs (slice_range bytes begin end) (a_tree c) × Breaks (meaning c) vars vars' text) ⊎ (text ≡ []) → LeftFrom bytes vars text
-  left-part begin end s (inl k) = inside begin end k.0 vars' (record { stands = s; reads = k.1 }) k.2
-  left-part begin end s (inr e) = subst (λ t. LeftFrom bytes vars t) (sym e) before
+      ((c : Code) × IsReadAs (slice_range bytes begin end) (a_tree c) × Breaks (meaning c) vars vars' text) ⊎ (text ≡ []) → (passed : ℕ) → LeftFrom false bytes passed feeds vars (marked out text)
+  left-part begin end s (inl k) passed = inside begin end k.0 vars' text (record { stands = s; reads = k.1 }) k.2
+  left-part begin end s (inr e) passed = subst (λ t. LeftFrom false bytes passed feeds vars (marked out t)) (sym e) before
 
   -- a statement was stopped by the sink
-  pub write-turn : (begin end : ℕ) (r : Result Flow StepFault) → r ≡ Err fault.Write → StandsAt bytes begin end → Performed r (slice_range bytes begin end) vars vars' text → LeftFrom bytes vars text
+  pub write-turn : (begin end : ℕ) (r : Result Flow StepFault) → r ≡ Err fault.Write → StandsAt bytes begin end → Performed r (slice_range bytes begin end) vars vars' text → (passed : ℕ) → LeftFrom false bytes passed feeds vars (marked out text)
   write-turn begin end r e s h = left-part begin end s (subst (λ x. Performed x (slice_range bytes begin end) vars vars' text) e h)
 
   -- a statement was stopped for want of memory
-  pub memory-turn : (begin end : ℕ) (r : Result Flow StepFault) → r ≡ Err fault.Memory → StandsAt bytes begin end → Performed r (slice_range bytes begin end) vars vars' text → LeftFrom bytes vars text
+  pub memory-turn : (begin end : ℕ) (r : Result Flow StepFault) → r ≡ Err fault.Memory → StandsAt bytes begin end → Performed r (slice_range bytes begin end) vars vars' text → (passed : ℕ) → LeftFrom false bytes passed feeds vars (marked out text)
   memory-turn begin end r e s h = left-part begin end s (subst (λ x. Performed x (slice_range bytes begin end) vars vars' text) e h)
 
 -- where no statement stands first, nothing is written
@@ -64,23 +64,23 @@ module _ (whole : Bool) (bytes : List ℕ) (feeds : ℕ) (vars vars' : Vars) whe
   -- the next statement is too long
   pub long-turn : (begin : ℕ) (t : Turn) → t ≡ turn.Stops (verdict.Refused script.TooLong (feeds + line_of bytes begin)) → Cut bytes whole (TooLong begin) → Turns (Ok t) bytes whole feeds vars vars' []
   long-turn begin t is d = subst (λ x. Turns (Ok x) bytes whole feeds vars vars' []) (sym is) (λ passed. (
-    record { written = []; ending = refused script.TooLong (feeds + line_of bytes begin); place = Some (passed + begin) },
+    record { written = []; refusals = []; ending = refused script.TooLong (feeds + line_of bytes begin); place = Some (passed + begin) },
     last (TooLong begin) d refl,
-    record { ends = refl; wrote = refl },
+    record { ends = refl; wrote = refl; passed_none = refl },
   ))
 
   -- the next statement has no end
   pub unfinished-turn : (begin : ℕ) (t : Turn) → t ≡ turn.Stops (verdict.Refused script.Syntax (feeds + line_of bytes begin)) → Cut bytes whole (Unfinished begin) → Turns (Ok t) bytes whole feeds vars vars' []
   unfinished-turn begin t is d = subst (λ x. Turns (Ok x) bytes whole feeds vars vars' []) (sym is) (λ passed. (
-    record { written = []; ending = refused script.Syntax (feeds + line_of bytes begin); place = Some (passed + begin) },
+    record { written = []; refusals = []; ending = refused script.Syntax (feeds + line_of bytes begin); place = Some (passed + begin) },
     last (Unfinished begin) d refl,
-    record { ends = refl; wrote = refl },
+    record { ends = refl; wrote = refl; passed_none = refl },
   ))
 
   -- nothing but blanks and comments is left
   pub end-turn : Cut bytes whole End → Turns (Ok (turn.Stops verdict.Done)) bytes whole feeds vars vars' []
-  end-turn d passed = (record { written = []; ending = done; place = None }, last End d refl, record { ends = refl; wrote = refl })
+  end-turn d passed = (record { written = []; refusals = []; ending = done; place = None }, last End d refl, record { ends = refl; wrote = refl; passed_none = refl })
 
   -- more bytes are waited for
   pub waiting-turn : Cut bytes whole Waiting → Turns (Ok (turn.Stops verdict.Waiting)) bytes whole feeds vars vars' []
-  waiting-turn d passed = (record { written = []; ending = waiting; place = None }, last Waiting d refl, record { ends = refl; wrote = refl })
+  waiting-turn d passed = (record { written = []; refusals = []; ending = waiting; place = None }, last Waiting d refl, record { ends = refl; wrote = refl; passed_none = refl })

@@ -38,15 +38,15 @@ same-wanted : (settings : Option Wanted) (v w : Wanted) → settings ≡ Some v 
 same-wanted settings v w e f = let h : Some v ≡ Some w = sym e ∙ f in cc
 
 -- so where the limit is reached, that many bytes were taken, and their play waits
-reached-play : (seen : Seen) (e : Extent) (bytes : List ℕ) → IsReached seen e bytes → is_some seen.inputs ≡ true → ReachesLimit seen → (length bytes ≡ SCRIPT_LIMIT) × (p : Played) × Play bytes false p × (p.ending ≡ waiting)
+reached-play : (seen : Seen) (e : Extent) (bytes : List ℕ) → IsReached seen e bytes → is_some seen.inputs ≡ true → ReachesLimit seen → (length bytes ≡ SCRIPT_LIMIT) × (p : Played) × Play bytes false false p × (p.ending ≡ waiting)
 reached-play seen e bytes r tells (p, w, full) =
     let named : w.wanted ≡ r.wanted = same-wanted seen.settings w.wanted r.wanted w.accepted r.accepted in
     let same : w.bytes ≡ bytes = same-taken seen.inputs r.wanted.file seen.left bytes w.bytes tells r.taken (subst (λ v. IsTaken seen.inputs v.file seen.left w.bytes) named w.taken) in
-    (ap length (sym same) ∙ full, p, subst (λ b. Play b false p) same w.played, w.waits)
+    (ap length (sym same) ∙ full, p, subst (λ b. Play b false false p) same w.played, w.waits)
 
 -- at the limit only a play that waits makes a run too long
-limit-verdict : (c : Cause) (bytes text : List ℕ) (v : Verdict) (p q : Played) → c ≡ cause_for extent.Limit v → Play bytes false p → IsOutcome v text p → Play bytes false q → q.ending ≡ waiting → c ≡ cause.Overlong
-limit-verdict c bytes text v p q is d o waits w = of-verdict v is (sym o.ends ∙ ap (λ x. x.ending) (one-play d waits) ∙ w)
+limit-verdict : (c : Cause) (bytes text : List ℕ) (v : Verdict) (p q : Played) → c ≡ cause_for extent.Limit v → Play bytes false false p → IsOutcome v text p → Play bytes false false q → q.ending ≡ waiting → c ≡ cause.Overlong
+limit-verdict c bytes text v p q is d o waits w = of-verdict v is (sym o.ends ∙ ap (λ x. x.ending) (one-play false d waits) ∙ w)
   where
     of-verdict : (v : Verdict) → c ≡ cause_for extent.Limit v → ending_of v ≡ waiting → c ≡ cause.Overlong
     of-verdict verdict.Done is e = absurd (let h : done ≡ waiting = e in cc)

@@ -10,7 +10,7 @@ use Rattle.sg_cut.specs.declared.limits.TheConstants.{SCRIPT_LIMIT}
 use Rattle.sg_io.specs.Faults.{Rose, next_count}
 use Rattle.sg_io.specs.Inputs.{Input, input_named, missing_after}
 use Rattle.sg_rows.specs.declared.fault.Fault.{Fault}
-use Rattle.sg_play.specs.Record.{Played, marked, out, done, refused, waiting}
+use Rattle.sg_play.specs.Record.{Record, Played, marked, out, done, refused, waiting}
 use Rattle.sg_play.specs.Play.{Play}
 use Rattle.sg_play.specs.Left.{IsLeft}
 use Rattle.sg_play.proofs.Plays.{ended-stays}
@@ -66,33 +66,33 @@ cut-off limit bytes rest l = let e : limit ≡ length bytes + (limit - length by
 
 -- what was played without waiting for more is what the whole script comes to
 module _ (limit : ℕ) (bytes rest : List ℕ) (p : Played) where
-  settled-whole : length bytes < limit → rest ≡ [] → Play bytes true p → Play (take limit (bytes ++ rest)) (nat_lt (length (bytes ++ rest)) limit) p
+  settled-whole : length bytes < limit → rest ≡ [] → Play bytes true false p → Play (take limit (bytes ++ rest)) (nat_lt (length (bytes ++ rest)) limit) false p
   settled-whole l e d =
       let same : bytes ++ rest ≡ bytes = ap (λ r. bytes ++ r) e ∙ append-nil bytes in
-      subst (λ b. Play (take limit b) (nat_lt (length b) limit) p) (sym same)
-      (subst (λ b. Play b (nat_lt (length bytes) limit) p) (sym (take_all limit bytes (omega arith))) (subst (λ w. Play bytes w p) (sym (lt-ltb (length bytes) limit l)) d))
+      subst (λ b. Play (take limit b) (nat_lt (length b) limit) false p) (sym same)
+      (subst (λ b. Play b (nat_lt (length bytes) limit) false p) (sym (take_all limit bytes (omega arith))) (subst (λ w. Play bytes w false p) (sym (lt-ltb (length bytes) limit l)) d))
 
-  settled-limit : length bytes ≡ limit → Play bytes false p → Play (take limit (bytes ++ rest)) (nat_lt (length (bytes ++ rest)) limit) p
+  settled-limit : length bytes ≡ limit → Play bytes false false p → Play (take limit (bytes ++ rest)) (nat_lt (length (bytes ++ rest)) limit) false p
   settled-limit l d =
       let zero : limit - length bytes ≡ 0 = omega arith in
       let none : take (limit - length bytes) rest ≡ [] = ap (λ n. take n rest) zero in
       let same : bytes ≡ take limit (bytes ++ rest) = sym (append-nil bytes) ∙ ap (λ r. bytes ++ r) (sym none) ∙ sym (cut-off limit bytes rest (omega arith)) in
-      subst (λ b. Play b (nat_lt (length (bytes ++ rest)) limit) p) same (subst (λ w. Play bytes w p) (sym (le-ltb (length (bytes ++ rest)) limit (omega (arith, length-append bytes rest)))) d)
+      subst (λ b. Play b (nat_lt (length (bytes ++ rest)) limit) false p) same (subst (λ w. Play bytes w false p) (sym (le-ltb (length (bytes ++ rest)) limit (omega (arith, length-append bytes rest)))) d)
 
-  settled-fault : length bytes ≤ limit → (p.ending ≡ waiting → ⊥) → Play bytes false p → Play (take limit (bytes ++ rest)) (nat_lt (length (bytes ++ rest)) limit) p
+  settled-fault : length bytes ≤ limit → (p.ending ≡ waiting → ⊥) → Play bytes false false p → Play (take limit (bytes ++ rest)) (nat_lt (length (bytes ++ rest)) limit) false p
   settled-fault l ended d =
-      subst (λ b. Play b (nat_lt (length (bytes ++ rest)) limit) p) (sym (cut-off limit bytes rest l)) (ended-stays d (take (limit - length bytes) rest) (nat_lt (length (bytes ++ rest)) limit) ended)
+      subst (λ b. Play b (nat_lt (length (bytes ++ rest)) limit) false p) (sym (cut-off limit bytes rest l)) (ended-stays false d (take (limit - length bytes) rest) (nat_lt (length (bytes ++ rest)) limit) ended)
 
 -- what the bytes taken come to is what the whole script comes to, but where a fault held bytes back
 pub settled : (e : Extent) (bytes rest : List ℕ) (now : Option (List ℕ)) (p : Played) → length bytes ≤ SCRIPT_LIMIT → IsExtent (Ok e) (length bytes) now → (now ≡ Some rest) ⊎ (now ≡ None) × (rest ≡ []) →
-    Play bytes (is_whole e) p → (p.ending ≡ waiting → e ≡ extent.Fault → ⊥) → Settled (bytes ++ rest) p
+    Play bytes (is_whole e) false p → (p.ending ≡ waiting → e ≡ extent.Fault → ⊥) → Settled (bytes ++ rest) p
 settled extent.Whole bytes rest now p l x o d w = settled-whole SCRIPT_LIMIT bytes rest p x.0 (nothing-over now rest o x.1) d
 settled extent.Limit bytes rest now p l x o d w = settled-limit SCRIPT_LIMIT bytes rest p x d
 settled extent.Fault bytes rest now p l x o d w = settled-fault SCRIPT_LIMIT bytes rest p l (λ h. w h refl) d
 
 -- what was left stands in the whole script too
-left-in-whole : (limit : ℕ) (bytes rest text : List ℕ) → length bytes ≤ limit → IsLeft bytes text → IsLeft (take limit (bytes ++ rest)) text
-left-in-whole limit bytes rest text l h = subst (λ b. IsLeft b text) (sym (cut-off limit bytes rest l)) (left-longer (take (limit - length bytes) rest) h)
+left-in-whole : (limit : ℕ) (bytes rest : List ℕ) (r : Record) → length bytes ≤ limit → IsLeft bytes false r → IsLeft (take limit (bytes ++ rest)) false r
+left-in-whole limit bytes rest r l h = subst (λ b. IsLeft b false r) (sym (cut-off limit bytes rest l)) (left-longer (take (limit - length bytes) rest) h)
 
 -- what a run has when the bytes of its input were taken
 pub record IsReached (seen : Seen) (e : Extent) (bytes : List ℕ) : Type 0 where
@@ -108,7 +108,7 @@ reads-input : {seen : Seen} {e : Extent} {bytes : List ℕ} (r : IsReached seen 
 reads-input r = record { wanted = r.wanted; accepted = r.accepted; begun = r.begun; input = r.taken.input }
 
 -- a verdict that is more than waiting for what a fault held back is that on the whole script
-came-to : (seen : Seen) (e : Extent) (bytes : List ℕ) (p : Played) → IsReached seen e bytes → Play bytes (is_whole e) p → (p.ending ≡ waiting → e ≡ extent.Fault → ⊥) → Settles seen p
+came-to : (seen : Seen) (e : Extent) (bytes : List ℕ) (p : Played) → IsReached seen e bytes → Play bytes (is_whole e) false p → (p.ending ≡ waiting → e ≡ extent.Fault → ⊥) → Settles seen p
 came-to seen e bytes p r d w = (bytes ++ r.taken.rest, reads-input r, settled e bytes r.taken.rest seen.left p r.long r.reached r.taken.over d w)
 
 done-ended : (o : done ≡ waiting) → ⊥
@@ -123,8 +123,8 @@ whole-no-fault h = cc
 limit-no-fault : extent.Limit ≡ extent.Fault → ⊥
 limit-no-fault h = cc
 
-comes-to : (seen : Seen) (e : Extent) (bytes text : List ℕ) (v : Verdict) (p : Played) → IsReached seen e bytes → Play bytes (is_whole e) p → IsOutcome v text p → Comes (cause_for e v) seen (marked out text)
-comes-to seen e bytes text verdict.Done p r d o = (p, came-to seen e bytes p r d (λ h f. done-ended (sym o.ends ∙ h)), o.ends, sym o.wrote)
+comes-to : (seen : Seen) (e : Extent) (bytes text : List ℕ) (v : Verdict) (p : Played) → IsReached seen e bytes → Play bytes (is_whole e) false p → IsOutcome v text p → Comes (cause_for e v) seen (marked out text)
+comes-to seen e bytes text verdict.Done p r d o = (p, came-to seen e bytes p r d (λ h f. done-ended (sym o.ends ∙ h)), o.ends, o.passed_none, sym o.wrote)
 comes-to seen e bytes text (verdict.Refused f line) p r d o = (p, came-to seen e bytes p r d (λ h g. refused-ended f line (sym o.ends ∙ h)), o.ends, sym o.wrote)
 comes-to seen extent.Whole bytes text verdict.Waiting p r d o = (p, came-to seen extent.Whole bytes p r d (λ h f. whole-no-fault f), o.ends, sym o.wrote)
 comes-to seen extent.Limit bytes text verdict.Waiting p r d o = (p, came-to seen extent.Limit bytes p r d (λ h f. limit-no-fault f), o.ends, sym o.wrote)
@@ -137,7 +137,7 @@ comes-to seen extent.Fault bytes text verdict.Waiting p r d o = (
 pub closes : (c : Cause) (seen : Seen) (e : Extent) (bytes text : List ℕ) → IsReached seen e bytes → Concludes c e bytes text → Closes c seen text
 closes c seen e bytes text r (concluded v p is d o) = closed (subst (λ x. Comes x seen (marked out text)) (sym is) (comes-to seen e bytes text v p r d o))
 closes c seen e bytes text r (left w l) =
-    let whole = left-in-whole SCRIPT_LIMIT bytes r.taken.rest text r.long l in
+    let whole = left-in-whole SCRIPT_LIMIT bytes r.taken.rest (marked out text) r.long l in
     stopped w (playing (bytes ++ r.taken.rest) (reads-input r) whole (λ p s. left-front whole s))
 
 -- what holds of an Ok holds where there is no error

@@ -1,5 +1,5 @@
 -- A play, turn by turn.
-use Rattle.std.proofs.Common.{◌≡◌, ℕ, ◌+◌, ◌≤◌, List, [], ◌++◌, take, drop, Bool, Result, Ok, Err, Option, Some, None, refl, sym, ap, subst, ◌∙◌, append_assoc, length, arith}
+use Rattle.std.proofs.Common.{◌≡◌, ℕ, ◌+◌, ◌≤◌, List, [], ◌++◌, take, drop, Bool, false, Result, Ok, Err, Option, Some, None, refl, sym, ap, subst, ◌∙◌, append_assoc, length, arith}
 use Rattle.std.specs.Prelude.{◌==◌, IsErr}
 use Rattle.std.proofs.lemmas.List.{append-nil}
 use Rattle.std.proofs.lemmas.List.Sums.{count_by-le-length}
@@ -11,9 +11,9 @@ use Rattle.sg_script.specs.Outcome.{a_tree}
 use Rattle.sg_eval.specs.Vars.{Vars}
 use Rattle.sg_eval.specs.Process.{Runs}
 use Rattle.sg_eval.specs.Statements.{on, whole as meaning}
-use Rattle.sg_play.specs.Record.{Played, Record, marked, out, after_text}
+use Rattle.sg_play.specs.Record.{Played, Record, marked, out, after}
 use Rattle.sg_play.specs.Play.{PlaysFrom, Play, next}
-use Rattle.sg_play.specs.Left.{IsFirstStatement, LeftFrom, IsLeft, behind}
+use Rattle.sg_play.specs.Left.{IsFirstStatement, GoesOn, LeftFrom, IsLeft, behind}
 use Rattle.sg_play.proofs.Leaving.{marked-append}
 use Rattle.sgps_cli.specs.declared.play.Verdict.{Verdict}
 use Rattle.sgps_cli.specs.declared.play.Turn.{Turn}
@@ -37,36 +37,44 @@ written-twice old mid new a b e f = f ∙ ap (λ o. append_known o b) e ∙ appe
 -- a script was played up to this rest: however the rest is played, or left, so is the whole
 pub record IsPlayedTo (whole : Bool) (script rest : List ℕ) (feeds : ℕ) (vars : Vars) (gained : List ℕ) : Type 0 where
   pub passed : ℕ
-  pub onward : (p : Played) → PlaysFrom whole rest passed feeds vars p → Play script whole (after_text gained p)
-  pub left : (text : List ℕ) → LeftFrom rest vars text → IsLeft script (gained ++ text)
+  pub onward : (p : Played) → PlaysFrom false whole rest passed feeds vars p → Play script whole false (after (marked out gained) [] p)
+  pub left : (r : Record) → LeftFrom false rest passed feeds vars r → IsLeft script false (marked out gained ++ r)
 
 -- at the beginning nothing was played
 pub played-none : (whole : Bool) (script : List ℕ) → IsPlayedTo whole script script 0 [] []
-played-none whole script = record { passed = 0; onward = λ p d. d; left = λ text l. l }
+played-none whole script = record { passed = 0; onward = λ p d. d; left = λ r l. l }
 
-after-twice : (a b : List ℕ) (p : Played) → after_text a (after_text b p) ≡ after_text (a ++ b) p
-after-twice a b p =
-    let e : marked out a ++ (marked out b ++ p.written) ≡ marked out (a ++ b) ++ p.written =
-    sym (append_assoc (marked out a) (marked out b) p.written) ∙ ap (λ x. x ++ p.written) (sym (marked-append out a b)) in
-    ap (λ (w : Record). record { written = w; ending = p.ending; place = p.place }) e
+-- what was written behind this and that
+behind-both : (a b : List ℕ) (r : Record) → marked out a ++ (marked out b ++ r) ≡ marked out (a ++ b) ++ r
+behind-both a b r = sym (append_assoc (marked out a) (marked out b) r) ∙ ap (λ x. x ++ r) (sym (marked-append out a b))
+
+after-twice : (a b : List ℕ) (p : Played) → after (marked out a) [] (after (marked out b) [] p) ≡ after (marked out (a ++ b)) [] p
+after-twice a b p = ap (λ (w : Record). record { written = w; refusals = p.refusals; ending = p.ending; place = p.place }) (behind-both a b p.written)
+
+-- the first statement was executed
+goes-with : {bytes : List ℕ} {vars vars' : Vars} (passed feeds begin end : ℕ) (c : Code) (text : List ℕ) → IsFirstStatement bytes begin end c → Runs (meaning c) vars (Ok on) vars' text →
+    GoesOn false bytes passed feeds end vars vars' (marked out text)
+goes-with {vars' = vars'} passed feeds begin end c text f r = record { begin = begin; refusals = []; stands = f.stands; takes = (a_tree c, f.reads, (Ok on, vars', text, r, refl)) }
 
 -- one more statement was executed
 pub played-on : {whole : Bool} {script rest : List ℕ} {feeds : ℕ} {vars vars' : Vars} {gained : List ℕ} (begin end : ℕ) (c : Code) (text : List ℕ) → IsPlayedTo whole script rest feeds vars gained →
     IsFirstStatement rest begin end c → Runs (meaning c) vars (Ok on) vars' text → IsPlayedTo whole script (drop end rest) (feeds + count_of_line_feeds (take end rest)) vars' (gained ++ text)
-played-on {whole} {script} {rest} {feeds} {vars} {vars'} {gained} begin end c text d f r = record {
-  passed = d.passed + end;
-  onward = λ p q. subst (Play script whole) (after-twice gained text p) (d.onward (after_text text p) (next begin end text vars' f.stands (a_tree c, f.reads, (Ok on, vars', text, r, refl)) q));
-  left = λ t l. subst (IsLeft script) (sym (append_assoc gained text t)) (d.left (text ++ t) (behind begin end c vars' text f r l));
-}
+played-on {whole} {script} {rest} {feeds} {vars} {vars'} {gained} begin end c text d f r =
+    let g = goes-with d.passed feeds begin end c text f r in
+    record {
+      passed = d.passed + end;
+      onward = λ p q. subst (Play script whole false) (after-twice gained text p) (d.onward (after (marked out text) [] p) (next begin end (marked out text) [] vars' f.stands g.takes q));
+      left = λ t l. subst (IsLeft script false) (behind-both gained text t) (d.left (marked out text ++ t) (behind end vars' (marked out text) t g l));
+    }
 
 -- the rest came to its end, and so did the whole
 pub played-end : {whole : Bool} {script rest : List ℕ} {feeds : ℕ} {vars : Vars} {gained : List ℕ} (v : Verdict) (text : List ℕ) → IsPlayedTo whole script rest feeds vars gained →
-    ((passed : ℕ) → (p : Played) × PlaysFrom whole rest passed feeds vars p × IsOutcome v text p) → (p : Played) × Play script whole p × IsOutcome v (gained ++ text) p
+    ((passed : ℕ) → (p : Played) × PlaysFrom false whole rest passed feeds vars p × IsOutcome v text p) → (p : Played) × Play script whole false p × IsOutcome v (gained ++ text) p
 played-end {gained = gained} v text d h =
     let e = h d.passed in (
-      after_text gained e.0,
+      after (marked out gained) [] e.0,
       d.onward e.0 e.1,
-      record { ends = e.2.ends; wrote = ap (λ x. marked out gained ++ x) e.2.wrote ∙ sym (marked-append out gained text) },
+      record { ends = e.2.ends; wrote = ap (λ x. marked out gained ++ x) e.2.wrote ∙ sym (marked-append out gained text); passed_none = e.2.passed_none },
     )
 
 module _ (whole : Bool) (script rest : List ℕ) (feeds : ℕ) (vars vars' : Vars) (gained text : List ℕ) where
@@ -83,8 +91,10 @@ module _ (whole : Bool) (script rest : List ℕ) (feeds : ℕ) (vars vars' : Var
   stops-so r v e h d = played-end v text d (subst (λ x. Turns x rest whole feeds vars vars' text) e h)
 
   -- a turn that was left leaves the whole
-  pub left-so : (r : Result Turn Stopped) (s : Stopped) → r ≡ Err s → Turns r rest whole feeds vars vars' text → IsPlayedTo whole script rest feeds vars gained → IsLeft script (gained ++ text)
-  left-so r s e h d = d.left text (subst (λ x. Turns x rest whole feeds vars vars' text) e h)
+  pub left-so : (r : Result Turn Stopped) (s : Stopped) → r ≡ Err s → Turns r rest whole feeds vars vars' text → IsPlayedTo whole script rest feeds vars gained → IsLeft script false (marked out (gained ++ text))
+  left-so r s e h d =
+      let k : Turns (Err s) rest whole feeds vars vars' text = subst (λ x. Turns x rest whole feeds vars vars' text) e h in
+      subst (IsLeft script false) (sym (marked-append out gained text)) (d.left (marked out text) (k d.passed))
 
 -- the line feeds so far are no more than the bytes so far
 pub feeds-fit : (feeds end n : ℕ) (rest passed later : List ℕ) → feeds + length rest ≤ SCRIPT_LIMIT → length passed ≡ end → length later + end ≡ length rest → n ≡ count_of_line_feeds passed →
@@ -92,6 +102,6 @@ pub feeds-fit : (feeds end n : ℕ) (rest passed later : List ℕ) → feeds + l
 feeds-fit feeds end n rest passed later fits front back counted = omega (arith, count_by-le-length (λ b. b == 10) passed)
 
 -- a play that gave no verdict was left
-pub left-result : (r : Result Verdict Stopped) (script : List ℕ) (whole : Bool) (text : List ℕ) → IsErr r → IsLeft script text → Plays r script whole text
+pub left-result : (r : Result Verdict Stopped) (script : List ℕ) (whole : Bool) (text : List ℕ) → IsErr r → IsLeft script false (marked out text) → Plays r script whole text
 left-result (Ok v) script whole text e h = absurd (cc)
 left-result (Err s) script whole text e h = h

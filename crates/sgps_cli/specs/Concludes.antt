@@ -1,6 +1,6 @@
 -- What the play of the bytes that were taken comes to, by how far they were taken.
 use Rattle.std.specs.Prelude.{◌≡◌, ℕ, ◌⊎◌, Bool, true, false, List}
-use Rattle.sg_play.specs.Record.{Played}
+use Rattle.sg_play.specs.Record.{Played, marked, out}
 use Rattle.sg_play.specs.Play.{Play}
 use Rattle.sg_play.specs.Left.{IsLeft}
 use Rattle.sgps_cli.specs.Playing.{IsOutcome}
@@ -31,5 +31,5 @@ cause_for e verdict.Waiting = waiting_cause e
 
 -- the bytes were played to a verdict, or their play was left
 pub data Concludes (c : Cause) (e : Extent) (bytes text : List ℕ) : Type 0 where
-  concluded : (v : Verdict) (p : Played) → c ≡ cause_for e v → Play bytes (is_whole e) p → IsOutcome v text p → Concludes c e bytes text
-  left : (c ≡ cause.WriteFault) ⊎ (c ≡ cause.Memory) → IsLeft bytes text → Concludes c e bytes text
+  concluded : (v : Verdict) (p : Played) → c ≡ cause_for e v → Play bytes (is_whole e) false p → IsOutcome v text p → Concludes c e bytes text
+  left : (c ≡ cause.WriteFault) ⊎ (c ≡ cause.Memory) → IsLeft bytes false (marked out text) → Concludes c e bytes text

@@ -64,7 +64,7 @@ pub record WaitsForMore (seen : Seen) (p : Played) : Type 0 where
   pub begun : seen.begun ≡ true
   pub bytes : List ℕ
   pub taken : IsTaken seen.inputs wanted.file seen.left bytes
-  pub played : Play bytes false p
+  pub played : Play bytes false false p
   pub waits : p.ending ≡ waiting
 
 -- as many bytes were taken as a script may have, and no statement inside them ends the run
@@ -83,7 +83,7 @@ CouldNotBegin seen = ((wanted : Wanted) × (seen.settings ≡ Some wanted)) × (
 -- the condition of a cause, and the record that stands before its line
 abbrev pub Comes : Cause → Seen → Record → Type 0
 Comes cause.Usage seen body = (seen.settings ≡ None) × (body ≡ [])
-Comes cause.Ok seen body = (p : Played) × Settles seen p × (p.ending ≡ done) × (body ≡ p.written)
+Comes cause.Ok seen body = (p : Played) × Settles seen p × (p.ending ≡ done) × (p.refusals ≡ []) × (body ≡ p.written)
 Comes (cause.Script fault line) seen body = (p : Played) × Settles seen p × (p.ending ≡ refused fault line) × (body ≡ p.written)
 Comes cause.Overlong seen body = (p : Played) × Settles seen p × (p.ending ≡ waiting) × (body ≡ p.written)
 Comes cause.ReadFault seen body =
@@ -95,19 +95,19 @@ Comes cause.Memory seen body = ⊥
 abbrev pub full : Cause → Record → Record
 full c body = body ++ marked err (last_line c)
 
--- A run that was stopped had written this text, while its script was played, and this front of a last line. The text is
--- a front of what the whole script writes, for every play that the script has. There is at most one, and that there
+-- A run that was stopped had written this, while its script was played, and this front of a last line. The first is a
+-- front of what the whole script writes, for every play that the script has. There is at most one, and that there
 -- always is one is no part of this definition: so it also says what was played, whole statements and a part of one.
-pub data IsEarly (seen : Seen) : List ℕ → List ℕ → Type 0 where
+pub data IsEarly (seen : Seen) : Record → List ℕ → Type 0 where
   nothing : IsEarly seen [] []
-  playing : {text : List ℕ} (b : List ℕ) → Reads seen b → IsLeft (take SCRIPT_LIMIT b) text
-      → ((p : Played) → Settled b p → IsFrontOf (marked out text) p.written) → IsEarly seen text []
-  telling : {text said : List ℕ} (c : Cause) (rest : List ℕ) → Comes c seen (marked out text) → last_line c ≡ said ++ rest → IsEarly seen text said
+  playing : {r : Record} (b : List ℕ) → Reads seen b → IsLeft (take SCRIPT_LIMIT b) false r
+      → ((p : Played) → Settled b p → IsFrontOf r p.written) → IsEarly seen r []
+  telling : {r : Record} {said : List ℕ} (c : Cause) (rest : List ℕ) → Comes c seen r → last_line c ≡ said ++ rest → IsEarly seen r said
 
 -- a run that was stopped wrote what it had written, and a front of the line for want of memory
 abbrev pub RunsOut : Seen → Sinks → Sinks → Type 0
 RunsOut seen old new =
-    (text said line rest : List ℕ) × IsEarly seen text said × (last_line cause.Memory ≡ line ++ rest) × Wrote old new (marked out text ++ marked err (said ++ line))
+    (r : Record) × (said line rest : List ℕ) × IsEarly seen r said × (last_line cause.Memory ≡ line ++ rest) × Wrote old new (r ++ marked err (said ++ line))
 
 -- how often the sinks had failed when a run began, and when it ended
 pub record SinkFaults : Type 0 where
@@ -120,7 +120,7 @@ pub record SinkFaults : Type 0 where
 abbrev pub FailsToWrite : Seen → Sinks → Sinks → SinkFaults → Type 0
 FailsToWrite seen old new f =
     (Rose f.out_before f.out_after ⊎ Rose f.err_before f.err_after)
-    × (((text said : List ℕ) × IsEarly seen text said × ((said ≡ []) ⊎ Rose f.err_before f.err_after) × Wrote old new (marked out text ++ marked err said))
+    × (((r : Record) × (said : List ℕ) × IsEarly seen r said × ((said ≡ []) ⊎ Rose f.err_before f.err_after) × Wrote old new (r ++ marked err said))
     ⊎ (Rose f.err_before f.err_after × RunsOut seen old new))
 
 -- how a run ends: with the whole record of its cause, or stopped by a sink or for want of memory
@@ -132,7 +132,7 @@ Ends c seen old new f = (body : Record) × Comes c seen body × Wrote old new (f
 -- how a run ends before its last line is written: with the text that stands before the line of its cause, or stopped
 pub data Closes (c : Cause) (seen : Seen) (text : List ℕ) : Type 0 where
   closed : Comes c seen (marked out text) → Closes c seen text
-  stopped : (c ≡ cause.WriteFault) ⊎ (c ≡ cause.Memory) → IsEarly seen text [] → Closes c seen text
+  stopped : (c ≡ cause.WriteFault) ⊎ (c ≡ cause.Memory) → IsEarly seen (marked out text) [] → Closes c seen text
 
 -- the same, and a run is too long exactly at the limit
 pub record IsClosed (c : Cause) (seen : Seen) (text : List ℕ) : Type 0 where

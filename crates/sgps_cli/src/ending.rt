@@ -55,7 +55,7 @@ impl Cause {
 }
 
 ghost use Rattle.std.specs.Prelude.{◌≡◌};
-ghost use Rattle.sgps_cli.specs.Causes.{name_of};
+ghost use Rattle.sg_play.specs.FaultLines.{name_of};
 
 /// The name of a fault, as it is printed.
 pub fn fault_name(fault: Fault) -> &'static [u8]

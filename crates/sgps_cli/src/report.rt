@@ -3,7 +3,8 @@
 ghost use Rattle.std.specs.Prelude.{◌≡◌, ◌≤◌, ◌++◌, ℕ, List, OnOk, decimal, codes};
 ghost use Rattle.std.specs.Io.KnownBytes.{append_known};
 ghost use Rattle.sg_io.specs.Faults.{AppendsFront, HasCauseAt};
-ghost use Rattle.sgps_cli.specs.Causes.{last_line, name_of};
+ghost use Rattle.sgps_cli.specs.Causes.{last_line};
+ghost use Rattle.sg_play.specs.FaultLines.{name_of};
 ghost use Rattle.sgps_cli.specs.Reports.{IsReport};
 
 use crate::ending::{Cause, fault_name};
