@@ -29,6 +29,7 @@ one-entry G m i v w positive p a b = elim (cases_lt v w) [
   ]
 ]
 
+-- an entry of the list in hand
 pub candidate-listed : (G t : List ℕ) (n : ℕ) → All (λ g. 1 ≤ g) G → IsApery G (get_or G 0 0) t → IsBettiCandidate G n →
     (i j : ℕ) × (i < length t) × (0 < j) × (j < length G) × (n ≡ get_or t i 0 + get_or G j 0)
 candidate-listed G t n all a c =

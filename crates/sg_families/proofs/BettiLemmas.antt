@@ -23,6 +23,7 @@ module _ (G : List ℕ) (positive : All (λ g. 1 ≤ g) G) (n : ℕ) where
         absurd (omega (arith, value_of-lower G x some.0 f.places some.1, f.value, positive some.0 0 l))
   ]
 
+  -- so 0 has one class
   pub no_classes_of_zero : n ≡ 0 → HasTwoClasses (IsFactorization G n) → ⊥
   no_classes_of_zero e h =
       let f : IsFactorization G 0 h.0 = subst (λ m. IsFactorization G m h.0) e h.2 in

@@ -52,6 +52,7 @@ module _ {I : Type 0} (F : I → List ℕ → Type 0) (size : I → ℕ) (k : �
       (g.0, record { member = g.1.member.1; greatest = λ z h. g.1.greatest z (class-end (F n) x z h, h) })
 
   module _ (IsLess : I → I → Type 0) (P : List (Relation I)) (canonical : IsCanonical IsLess F P) where
+    -- canonical relations are relations
     pub canonical-relations : AreRelations F P
     canonical-relations r c =
         let h = canonical.canonical r c in
@@ -81,6 +82,7 @@ module _ {I : Type 0} (F : I → List ℕ → Type 0) (size : I → ℕ) (k : �
         let b = to_root n root.0 y root.1 q in
         (a.0, b.0, a.1, steps-then P a.0 root.0 b.0 (steps-back P root.0 a.0 a.2) b.2, class-back (F n) y b.0 b.1)
 
+    -- they join any two factorizations of every element
     pub canonical-presents : Presents F P
     canonical-presents = class-induction F size k family (λ _. AreJoined P) (λ _ x _. steps-here P x) (λ _. steps-then P)
         (λ _ _ i _ _ x y _ _ j. joined-raise P x y i j) cross
@@ -104,6 +106,7 @@ module _ {I : Type 0} (F : I → List ℕ → Type 0) (size : I → ℕ) (k : �
         let len = family.places s.value r.right (class-start V r.right s.right j) ∙ sym (family.places s.value s.right (class-end V r.right s.right j)) in
         one-greatest (λ z. IsSameClass V r.right z) r.right s.right len g h'
 
+    -- and none of them can be left out
     pub canonical-none_spare : ((n : I) → IsLess n n → ⊥) → IsNoneSpare F P
     canonical-none_spare strict = none-spare F size k family P (record {
       relations = canonical-relations;

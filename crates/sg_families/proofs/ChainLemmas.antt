@@ -59,6 +59,7 @@ module _ {I : Type 0} (F : I → List ℕ → Type 0) (size : I → ℕ) (k : �
             class-back (F n) y b.0 b.1,
           )
 
+  -- so the greatest least length is the catenary degree
   pub catenary-from_classes : (N : ℕ) → IsGreatestLeastLength F N → IsCatenary F N
   catenary-from_classes N h = record {
     chained = chained-from_classes N h.bound;

@@ -12,25 +12,32 @@ use Rattle.sg_families.proofs.Families.{IsFamily}
 
 -- ---- classes are classes
 
+-- sharing goes both ways
 pub share-back : (x y : List ℕ) → Share x y → Share y x
 share-back x y s = (s.0, s.2, s.1)
 
 module _ (V : List ℕ → Type 0) where
+  -- a vector is in its own class
   pub class-here : (x : List ℕ) → V x → IsSameClass V x x
   class-here x v = joined-here V Share x v
 
+  -- two vectors that share are in one class
   pub class-step : (x y : List ℕ) → V x → V y → Share x y → IsSameClass V x y
   class-step x y v w s = joined-step V Share x y v w s
 
+  -- two classes with a common vector are one
   pub class-then : (x y z : List ℕ) → IsSameClass V x y → IsSameClass V y z → IsSameClass V x z
   class-then x y z i j = joined-then V Share x y z i j
 
+  -- what has a class lies in the set
   pub class-start : (x y : List ℕ) → IsSameClass V x y → V x
   class-start x y j = walk-start Share V j.0 x y j.1
 
+  -- so does what is reached
   pub class-end : (x y : List ℕ) → IsSameClass V x y → V y
   class-end x y j = joined-end V Share x y j
 
+  -- being in one class goes both ways
   pub class-back : (x y : List ℕ) → IsSameClass V x y → IsSameClass V y x
   class-back x y j = joined-back V Share share-back j.0 x y (class-end x y j) j.1
 
@@ -75,6 +82,7 @@ module _ {I : Type 0} (F : I → List ℕ → Type 0) (size : I → ℕ) (k : �
   bounded cross zero n l = at_element cross n (λ m less. absurd (let h : size m < size n = less in omega arith))
   bounded cross (suc b) n l = at_element cross n (λ m less. bounded cross b m (let h : size m < size n = less in omega arith))
 
+  -- a relation that crosses between classes relates any two factorizations of any element
   pub class-induction : ((n : I) (x y : List ℕ) → F n x → F n y → ¬ IsSameClass (F n) x y → Crosses (F n) (J n) x y) →
       (n : I) (x y : List ℕ) → F n x → F n y → J n x y
   class-induction cross n = bounded cross (size n) n (omega arith)

@@ -87,6 +87,7 @@ module _ {I : Type 0} (F : I → List ℕ → Type 0) (size : I → ℕ) (k : �
     | inl same ↦ (h.1, h.3, λ j. h.4 (class-then (F n) h.0 x h.1 (class-back (F n) x h.0 same) j))
   ]
 
+  -- the greatest least length of the classes
   pub greatest_least_length-exists : (N : ℕ) × IsGreatestLeastLength F N
   greatest_least_length-exists =
       let g = greatest-of (λ n N. (x : List ℕ) → F n x → IsShort n x N) (λ n N. (N ≡ 0) ⊎ ((x : List ℕ) × IsLong n x N))
@@ -121,6 +122,7 @@ module _ {I : Type 0} (F : I → List ℕ → Type 0) (size : I → ℕ) (k : �
       greatest [] exactly = (0, (λ d h. absurd (contains-nil d ((exactly d).1 h))), inl refl)
       greatest (e ∷ ds) exactly = let g = greatest-in (λ d. d) e ds in (g.0, (λ d h. g.2 d ((exactly d).1 h)), inr ((exactly g.0).0 g.1))
 
+  -- the greatest delta of elements with two classes, or none
   pub greatest_betti_delta-exists : (r : Option ℕ) × IsGreatestBettiDelta F r
   greatest_betti_delta-exists =
       let g = greatest-of (λ n D. (d : ℕ) → IsDelta (F n) d → d ≤ D) (λ n D. (D ≡ 0) ⊎ IsDelta (F n) D)

@@ -150,6 +150,7 @@ module _ (G : List ℕ) (s : IsNumericalSemigroup G) (more : (j : ℕ) → j < l
   delta-is_difference : (n d : ℕ) → IsDelta (IsFactorization G n) d → IsDifference G d
   delta-is_difference n d t = (n, t.is_upper.0, t.is_lower.0, t.is_upper.1, t.is_lower.1, t.is_upper.2 ∙ ap (λ l. l + d) (sym t.is_lower.2))
 
+  -- where all generators are the first one there is no delta
   pub min_delta-none : g ≡ 0 → IsMinDelta (IsFactorization G) None
   min_delta-none e = record {
     none = λ d t.
@@ -159,6 +160,7 @@ module _ (G : List ℕ) (s : IsNumericalSemigroup G) (more : (j : ℕ) → j < l
     least = tt;
   }
 
+  -- and else the divisor is the least delta
   pub min_delta-some : 0 < g → IsMinDelta (IsFactorization G) (Some g)
   min_delta-some positive =
       let p = gcd-is_difference G g more h in

@@ -85,6 +85,7 @@ deltas-from_filled V D filled d h =
     ]
 
 module _ {I : Type 0} (F : I → List ℕ → Type 0) (size : I → ℕ) (k : ℕ) (family : IsFamily F size k) where
+  -- what bounds the deltas of elements with two classes bounds all
   pub deltas-bounded : (D : ℕ) → ((n : I) (d : ℕ) → HasTwoClasses (F n) → IsDelta (F n) d → d ≤ D) → (n : I) (d : ℕ) → IsDelta (F n) d → d ≤ D
   deltas-bounded D bound n = deltas-from_filled (F n) D
       (class-induction F size k family (λ m. IsFilled (F m) D) (λ m x f j low high. absurd (omega arith)) (λ m. filled-then (F m) D)

@@ -24,6 +24,7 @@ module _ (D : ℕ → Type 0) (closed : (a b : ℕ) → b ≤ a → D a → D b 
     ]
   ]
 
+  -- of any two numbers of the set
   pub gcd-of_closed : (a b : ℕ) → D a → D b → (g : ℕ) × D g × IsGcd a b g
   gcd-of_closed a b p q = gcd-within (a + b) a b (omega arith) p q
 

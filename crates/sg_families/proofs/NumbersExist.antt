@@ -19,6 +19,7 @@ use Rattle.sg_families.proofs.Families.{numbers-family}
 
 -- whose numbers are all members from c on
 module _ (G : List ℕ) (positive : All (λ g. 1 ≤ g) G) (c : ℕ) (all : (n : ℕ) → c ≤ n → IsMember G n) where
+  -- no element from the bound on has two classes
   pub betti-bounded : (n : ℕ) → HasTwoClasses (IsFactorization G n) → n < c + get_or G 0 0 + sum G
   betti-bounded n h =
       let b = betti-candidate G positive n h in
@@ -28,12 +29,14 @@ module _ (G : List ℕ) (positive : All (λ g. 1 ≤ g) G) (c : ℕ) (all : (n :
         | inr more ↦ absurd (b.entry.least (w - get_or G 0 0) (omega arith) (all (w - get_or G 0 0) (omega arith)))
       ]
 
+  -- so those that have are listed
   pub betti_elements-exist : (l : List ℕ) × Lists (λ n. HasTwoClasses (IsFactorization G n)) l
   betti_elements-exist =
       numbers-listed (λ n. HasTwoClasses (IsFactorization G n))
       (λ n. two_classes-decided (IsFactorization G n) (all_factorizations G n) (factorizations-listed G n positive))
       (c + get_or G 0 0 + sum G) betti-bounded
 
+  -- and the canonical relations are there
   pub canonical_relations-exist : (P : List (Relation ℕ)) × IsCanonical (◌<◌) (IsFactorization G) P
   canonical_relations-exist =
       let l = betti_elements-exist in

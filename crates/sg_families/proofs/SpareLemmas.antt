@@ -74,6 +74,7 @@ module _ {I : Type 0} (F : I → List ℕ → Type 0) (size : I → ℕ) (k : �
       let h = walk-stays j.0 s.right s.left j.1 (f.1, class-here (F s.value) s.right f.1) in
       apart.rooted s s listed listed refl h.1
 
+-- relations that lead to classes of their own cannot be left out
 pub none-spare : {I : Type 0} (F : I → List ℕ → Type 0) (size : I → ℕ) (k : ℕ) → IsFamily F size k → (P : List (Relation I)) → IsApart F P → IsNoneSpare F P
 none-spare F size k family [] apart p inside = absurd (omega arith)
 none-spare F size k family (r ∷ P) apart p inside =

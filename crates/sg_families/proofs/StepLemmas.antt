@@ -41,17 +41,22 @@ module _ {I : Type 0} (P : List (Relation I)) where
     step = inl (sym (plus-zeros r.left), sym (plus-zeros r.right) ∙ ap (λ n. plus r.right (replicate n 0)) (sym e));
   }
 
+  -- steps lead on where both ends are raised at one place
   pub joined-raise : (x y : List ℕ) (i : ℕ) → AreJoined P x y → AreJoined P (raise x i) (raise y i)
   joined-raise x y i j = joined-map (λ _. ⊤) (λ _. ⊤) (IsStep P) (IsStep P) (λ v. raise v i) (λ _ v. v) (λ a b _ _ s. step-raise a b i s) j.0 x y tt j.1
 
+  -- a relation joins its sides
   pub relation-joined : (r : Relation I) → Contains P r → length r.left ≡ length r.right → AreJoined P r.left r.right
   relation-joined r c e = joined-step (λ _. ⊤) (IsStep P) r.left r.right tt tt (relation-step r c e)
 
+  -- no step
   pub steps-here : (x : List ℕ) → AreJoined P x x
   steps-here x = joined-here (λ _. ⊤) (IsStep P) x tt
 
+  -- steps after steps
   pub steps-then : (x y z : List ℕ) → AreJoined P x y → AreJoined P y z → AreJoined P x z
   steps-then x y z i j = joined-then (λ _. ⊤) (IsStep P) x y z i j
 
+  -- steps turned round
   pub steps-back : (x y : List ℕ) → AreJoined P x y → AreJoined P y x
   steps-back x y j = joined-back (λ _. ⊤) (IsStep P) step-back j.0 x y tt j.1

@@ -49,11 +49,13 @@ exceeds-from_listing P l b h long = (take (b + 1) l, length-take-le (b + 1) l (o
     each : All P (take (b + 1) l)
     each k d inside = subst P (sym (get_or-take (b + 1) l k d (omega (arith, len)))) ((h.exactly (get_or l k d)).0 (Contains-get_or l k d (omega (arith, len))))
 
+-- a list that has all items is longer than b where more than b have P
 pub listing-from_exceeds : {A : Type 0} (P : A → Type 0) (l : List A) (b : ℕ) → ((x : A) → P x → Contains l x) → Exceeds P b → b < length l
 listing-from_exceeds P l b all h =
     let few = pigeonhole h.0 l h.2 (λ x c. all x (subst P c.2 (h.3 c.0 x c.1))) in
     omega (arith, few, h.1)
 
+-- both
 pub exceeds-iff : {A : Type 0} (P : A → Type 0) (l : List A) (b : ℕ) → IsListing P l → Exceeds P b ↔ (b < length l)
 exceeds-iff P l b h = (listing-from_exceeds P l b (λ x p. (h.exactly x).1 p), exceeds-from_listing P l b h)
 
@@ -90,6 +92,7 @@ listing-from_descending V l h = record {
   exactly = h.exactly;
 }
 
+-- so has an ascending one
 pub listing-from_ascending : (V : List ℕ → Type 0) (l : List (List ℕ)) → ListsAscending V l → IsListing V l
 listing-from_ascending V l h = record {
   different = pairs-weaker IsLexBelow (λ x y. x ≢ y) (λ x y b e. lex-irreflexive x (subst (IsLexBelow x) (sym e) b)) l h.ascending;

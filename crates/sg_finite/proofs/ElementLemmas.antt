@@ -5,12 +5,15 @@ use Rattle.std.proofs.lemmas.List.Elements.{All-append, All-contains, Contains-g
 use Rattle.std.proofs.lemmas.List.Kept.{AllPairs-cons}
 use Rattle.sg_defs.proofs.ListLemmas.{contains-cases}
 
+-- the empty list contains nothing
 pub contains-nil : {A : Type 0} (x : A) → Contains [] x → ⊥
 contains-nil x h = omega (arith, h.1)
 
+-- a list contains its first element
 pub here : {A : Type 0} (x : A) (xs : List A) → Contains (x ∷ xs) x
 here x xs = (0, omega arith, refl)
 
+-- and what the rest contains
 pub later : {A : Type 0} (y : A) (xs : List A) (x : A) → Contains xs x → Contains (y ∷ xs) x
 later y xs x h = (suc h.0, omega (arith, h.1), h.2)
 
@@ -18,6 +21,7 @@ later y xs x h = (suc h.0, omega (arith, h.1), h.2)
 pub all-from_contained : {A : Type 0} (P : A → Type 0) (xs : List A) → ((x : A) → Contains xs x → P x) → All P xs
 all-from_contained P xs h k d l = h (get_or xs k d) (Contains-get_or xs k d l)
 
+-- a mapped list contains what each element becomes
 pub contains-map : {A B : Type 0} (f : A → B) (xs : List A) (x : A) → Contains xs x → Contains (map f xs) (f x)
 contains-map f [] x h = absurd (contains-nil x h)
 contains-map f (y ∷ xs) x h = elim (contains-cases y xs x h) [
@@ -35,9 +39,11 @@ from-map f (y ∷ xs) z h = elim (contains-cases (f y) (map f xs) z h) [
 
 -- ---- pairs
 
+-- the empty list has no pairs
 pub pairs-nil : {A : Type 0} (R : A → A → Type 0) → AllPairs R []
 pairs-nil R i j d l k = absurd (omega arith)
 
+-- the first element and all later ones
 pub pairs-head : {A : Type 0} (R : A → A → Type 0) (x : A) (xs : List A) → AllPairs R (x ∷ xs) → All (R x) xs
 pairs-head R x xs h k d l = h 0 (suc k) d (omega arith) (omega arith)
 
@@ -45,9 +51,11 @@ pairs-head R x xs h k d l = h 0 (suc k) d (omega arith) (omega arith)
 pub pairs-first : {A : Type 0} (R : A → A → Type 0) (x : A) (xs : List A) → AllPairs R (x ∷ xs) → (y : A) → Contains xs y → R x y
 pairs-first R x xs h y k = All-contains (R x) xs y (pairs-head R x xs h) k
 
+-- the pairs of the rest
 pub pairs-tail : {A : Type 0} (R : A → A → Type 0) (x : A) (xs : List A) → AllPairs R (x ∷ xs) → AllPairs R xs
 pairs-tail R x xs h i j d l k = h (suc i) (suc j) d (omega arith) (omega arith)
 
+-- the pairs of two lists, and those across them
 pub pairs-append : {A : Type 0} (R : A → A → Type 0) (xs ys : List A) → AllPairs R xs → AllPairs R ys → ((x y : A) → Contains xs x → Contains ys y → R x y) → AllPairs R (xs ++ ys)
 pairs-append R [] ys p q across = q
 pairs-append R (x ∷ xs) ys p q across =
@@ -55,6 +63,7 @@ pairs-append R (x ∷ xs) ys p q across =
     (All-append (R x) xs ys (pairs-head R x xs p) (all-from_contained (R x) ys (λ y h. across x y (here x xs) h)))
     (pairs-append R xs ys (pairs-tail R x xs p) q (λ a b h k. across a b (later x xs a h) k))
 
+-- the pairs of a mapped list
 pub pairs-map : {A B : Type 0} (R : A → A → Type 0) (S : B → B → Type 0) (f : A → B) → ((x y : A) → R x y → S (f x) (f y)) → (xs : List A) → AllPairs R xs → AllPairs S (map f xs)
 pairs-map R S f keep [] p = pairs-nil S
 pairs-map R S f keep (x ∷ xs) p =

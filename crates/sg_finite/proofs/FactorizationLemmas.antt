@@ -62,6 +62,7 @@ all-zero [] zero e l = refl
 all-zero [] (suc n) e l = absurd (omega arith)
 all-zero (g ∷ G) n e l = absurd (omega arith)
 
+-- by no numbers: what is above 0 has none
 pub all-none : (G : List ℕ) (n : ℕ) → length G ≡ 0 → 0 < n → all_factorizations G n ≡ []
 unfolding all_factorizations
 all-none [] zero e l = absurd (omega arith)

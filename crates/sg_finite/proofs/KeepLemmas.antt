@@ -28,6 +28,7 @@ keep-first {A = A} Q decide x xs = by (decide x)
     by (inr n) = inr (n, refl)
 
 module _ {A : Type 0} (Q : A → Type 0) (decide : (x : A) → Q x ⊎ ¬ Q x) where
+  -- what is kept was there, and has Q
   pub keep-of : (xs : List A) (y : A) → Contains (keep Q decide xs) y → Contains xs y × Q y
   keep-of [] y h = absurd (contains-nil y (subst (λ l. Contains l y) (keep-nil Q decide) h))
   keep-of (x ∷ xs) y h = elim (keep-first Q decide x xs) [
@@ -38,6 +39,7 @@ module _ {A : Type 0} (Q : A → Type 0) (decide : (x : A) → Q x ⊎ ¬ Q x) w
     | inr no_ ↦ let p = keep-of xs y (subst (λ l. Contains l y) no_.1 h) in (later x xs y p.0, p.1)
   ]
 
+  -- what has Q is kept
   pub keep-all : (xs : List A) (y : A) → Contains xs y → Q y → Contains (keep Q decide xs) y
   keep-all [] y h q = absurd (contains-nil y h)
   keep-all (x ∷ xs) y h q = elim (keep-first Q decide x xs) [
@@ -51,6 +53,7 @@ module _ {A : Type 0} (Q : A → Type 0) (decide : (x : A) → Q x ⊎ ¬ Q x) w
     ])
   ]
 
+  -- no more is kept than was there
   pub keep-length : (xs : List A) → length (keep Q decide xs) ≤ length xs
   keep-length [] = omega (arith, ap length (keep-nil Q decide))
   keep-length (x ∷ xs) = elim (keep-first Q decide x xs) [
@@ -80,11 +83,13 @@ module _ {A : Type 0} (Q : A → Type 0) (decide : (x : A) → Q x ⊎ ¬ Q x) w
     | inr no_ ↦ subst (AllPairs R) (sym no_.1) (keep-pairs R xs (pairs-tail R x xs p))
   ]
 
+  -- of a list with exactly P, what is kept has exactly P and Q
   pub keep-exactly : (P : A → Type 0) (xs : List A) → ((x : A) → Contains xs x ↔ P x) → (x : A) → Contains (keep Q decide xs) x ↔ (P x × Q x)
   keep-exactly P xs exactly x = (
     (λ h. let k = keep-of xs x h in ((exactly x).0 k.0, k.1)),
     (λ h. keep-all xs x ((exactly x).1 h.0) h.1),
   )
 
+  -- and is a listing, where the list was one
   pub keep-listing : (P : A → Type 0) (xs : List A) → IsListing P xs → IsListing (λ x. P x × Q x) (keep Q decide xs)
   keep-listing P xs h = record { different = keep-pairs (λ x y. x ≢ y) xs h.different; exactly = keep-exactly P xs h.exactly }

@@ -12,10 +12,12 @@ use Rattle.sg_finite.proofs.ElementLemmas.{contains-nil, contains-map, from-map,
 abbrev pub IsLexAbove : List ℕ → List ℕ → Type 0
 IsLexAbove x y = IsLexBelow y x
 
+-- no level
 pub levels-zero : (rest : ℕ → List (List ℕ)) → levels rest 0 ≡ []
 unfolding levels
 levels-zero rest = refl
 
+-- one more level in front
 pub levels-more : (rest : ℕ → List (List ℕ)) (k : ℕ) → levels rest (suc k) ≡ map (λ z. k ∷ z) (rest k) ++ levels rest k
 unfolding levels
 levels-more rest k = refl
@@ -29,6 +31,7 @@ from-levels rest (suc k) z h = elim (Contains-append_cases (map (λ y. k ∷ y) 
   | inr lower ↦ let p = from-levels rest k z lower in (p.0, p.1, omega (arith, p.2), p.3, p.4)
 ]
 
+-- what stands behind its first place is listed with it
 pub into-levels : (rest : ℕ → List (List ℕ)) (k c : ℕ) (r : List ℕ) → c < k → Contains (rest c) r → Contains (levels rest k) (c ∷ r)
 unfolding levels
 into-levels rest zero c r l h = absurd (omega arith)
@@ -40,6 +43,7 @@ into-levels rest (suc k) c r l h = elim (cases_lt c k) [
       (subst (λ j. Contains (map (λ y. j ∷ y) (rest j)) (c ∷ r)) e (contains-map (λ y. c ∷ y) (rest c) r h))
 ]
 
+-- levels that descend, from the greatest first place down, descend
 pub levels-descending : (rest : ℕ → List (List ℕ)) (k : ℕ) → ((c : ℕ) → AllPairs IsLexAbove (rest c)) → AllPairs IsLexAbove (levels rest k)
 unfolding levels
 levels-descending rest zero p = pairs-nil IsLexAbove

@@ -15,6 +15,7 @@ pub below : ℕ → List ℕ
 below zero = []
 below (suc b) = below b ++ b ∷ []
 
+-- these are the numbers below b
 pub below-exactly : (b n : ℕ) → Contains (below b) n ↔ (n < b)
 unfolding below
 below-exactly zero n = ((λ h. absurd (contains-nil n h)), (λ l. absurd (omega arith)))

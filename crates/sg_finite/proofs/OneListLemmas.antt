@@ -23,6 +23,7 @@ module _ {A : Type 0} (R : A → A → Type 0) (apart : (x y : A) → R x y → 
     | inl e ↦ let r : R x x = subst (R x) (sym e) (pairs-first R x xs p z h) in absurd (apart x x r r)
   ]
 
+  -- two lists in one strict order with the same elements are the same
   pub same-lists : (xs ys : List A) → AllPairs R xs → AllPairs R ys → ((z : A) → Contains xs z → Contains ys z) → ((z : A) → Contains ys z → Contains xs z) → xs ≡ ys
   same-lists [] [] p q to back = refl
   same-lists [] (y ∷ ys) p q to back = absurd (contains-nil y (back y (here y ys)))

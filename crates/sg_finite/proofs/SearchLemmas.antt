@@ -7,6 +7,7 @@ use Rattle.sg_finite.proofs.ElementLemmas.{contains-nil, here, later}
 
 -- ---- equality of vectors
 
+-- lists are compared element by element
 pub cons-decided : {A : Type 0} → ((x y : A) → (x ≡ y) ⊎ (x ≢ y)) → (xs ys : List A) → (xs ≡ ys) ⊎ (xs ≢ ys)
 cons-decided equal [] [] = inl refl
 cons-decided equal [] (y ∷ ys) = inr (λ e. cc)
@@ -19,6 +20,7 @@ cons-decided equal (x ∷ xs) (y ∷ ys) = elim (equal x y) [
   ]
 ]
 
+-- whether two vectors are the same is decided
 pub vectors-decided : (x y : List ℕ) → (x ≡ y) ⊎ (x ≢ y)
 vectors-decided = cons-decided cases_eq
 
@@ -56,12 +58,14 @@ module _ {A : Type 0} (Q : A → Type 0) (decide : (x : A) → Q x ⊎ ¬ Q x) w
 -- ---- of a set that is listed
 
 module _ {A : Type 0} (P Q : A → Type 0) (decide : (x : A) → Q x ⊎ ¬ Q x) (xs : List A) (exactly : (x : A) → Contains xs x ↔ P x) where
+  -- some item of the set has Q, or none
   pub some-in : ((x : A) × P x × Q x) ⊎ ((x : A) → P x → Q x → ⊥)
   some-in = elim (some-decided Q decide xs) [
     | inl found ↦ inl (found.0, (exactly found.0).0 found.1, found.2)
     | inr none ↦ inr (λ x p q. none x ((exactly x).1 p) q)
   ]
 
+  -- each item has Q, or some does not
   pub each-in : ((x : A) → P x → Q x) ⊎ ((x : A) × P x × ¬ Q x)
   each-in = elim (each-decided Q decide xs) [
     | inl all ↦ inl (λ x p. all x ((exactly x).1 p))

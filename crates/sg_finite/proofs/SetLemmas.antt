@@ -55,6 +55,7 @@ greatest-first V x l lists = record {
 module _ (V : List ℕ → Type 0) (l : List (List ℕ)) (lists : ListsDescending V l) where
   -- ---- lengths
 
+  -- whether some vector has a length is decided
   pub length-decided : (n : ℕ) → IsLengthIn V n ⊎ ¬ IsLengthIn V n
   length-decided n = elim (some-in V (λ z. sum z ≡ n) (λ z. cases_eq (sum z) n) l lists.exactly) [
     | inl found ↦ inl found
@@ -65,6 +66,7 @@ module _ (V : List ℕ → Type 0) (l : List (List ℕ)) (lists : ListsDescendin
   pub length-bound : (b : ℕ) × ((n : ℕ) → IsLengthIn V n → n ≤ b)
   length-bound = let m = bound-exists V sum l lists.exactly in (m.0, λ n h. omega (arith, m.1 h.0 h.1, h.2))
 
+  -- the lengths have an ascending list
   pub lengths-listed : (ns : List ℕ) × Lists (IsLengthIn V) ns
   lengths-listed = numbers-listed (IsLengthIn V) length-decided (length-bound.0 + 1) (λ n h. omega (arith, length-bound.1 n h))
 
@@ -90,6 +92,7 @@ module _ (V : List ℕ → Type 0) (l : List (List ℕ)) (lists : ListsDescendin
         | inl less ↦ elim (length-decided k) [ inl h ↦ inl (less, h) | inr none ↦ inr (λ h. none h.1) ]
       ]
 
+  -- whether a number is a delta is decided
   pub delta-decided : (d : ℕ) → IsDelta V d ⊎ ¬ IsDelta V d
   delta-decided d = elim (cases_lt 0 d) [
     | inr none ↦ inr (λ h. omega (arith, h.positive))
@@ -105,14 +108,17 @@ module _ (V : List ℕ → Type 0) (l : List (List ℕ)) (lists : ListsDescendin
     ]
   ]
 
+  -- the deltas have an ascending list
   pub deltas-listed : (ds : List ℕ) × Lists (IsDelta V) ds
   deltas-listed = numbers-listed (IsDelta V) delta-decided (length-bound.0 + 1) (λ d h. omega (arith, length-bound.1 (h.lower + d) h.is_upper))
 
   -- ---- classes
 
+  -- whether two vectors are in one class is decided
   pub class-decided : (x y : List ℕ) → IsSameClass V x y ⊎ ¬ IsSameClass V x y
   class-decided x y = joined-decided Share share-decided vectors-decided V l lists.exactly x y
 
+  -- whether there are two classes is decided
   pub two_classes-decided : HasTwoClasses V ⊎ ¬ HasTwoClasses V
   two_classes-decided = elim (some-in V (λ x. (y : List ℕ) × V y × ¬ IsSameClass V x y) other l lists.exactly) [
     | inl found ↦ inl (found.0, found.2.0, found.1, found.2.1, found.2.2)
@@ -153,6 +159,7 @@ module _ (V : List ℕ → Type 0) (l : List (List ℕ)) (lists : ListsDescendin
   step-decided : (N : ℕ) (x y : List ℕ) → (distance x y ≤ N) ⊎ ¬ (distance x y ≤ N)
   step-decided N x y = le-decided (distance x y) N
 
+  -- whether a number chains the set is decided
   pub chained-decided : (N : ℕ) → IsChained V N ⊎ ¬ IsChained V N
   chained-decided N = elim (each-in V (λ x. (y : List ℕ) → V y → IsJoined V (λ a b. distance a b ≤ N) x y) all l lists.exactly) [
     | inl each ↦ inl (λ x y p q. each x p y q)
@@ -171,6 +178,7 @@ module _ (V : List ℕ → Type 0) (l : List (List ℕ)) (lists : ListsDescendin
       let all = bound-exists V (λ x. (bound-exists V (λ y. distance x y) l lists.exactly).0) l lists.exactly in
       (all.0, λ x y p q. omega (arith, all.1 x p, (bound-exists V (λ y. distance x y) l lists.exactly).1 y q))
 
+  -- the set has a catenary degree
   pub catenary-exists : (c : ℕ) × IsCatenaryOf V c
   catenary-exists =
       let far = distances-bounded in

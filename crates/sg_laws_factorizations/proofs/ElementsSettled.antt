@@ -15,6 +15,7 @@ use Rattle.sg_finite.proofs.ElementLemmas.{contains-nil, pairs-nil}
 use Rattle.sg_finite.proofs.FactorizationLemmas.{factorizations-listed}
 use Rattle.sg_finite.proofs.SetLemmas.{lengths-listed, deltas-listed, catenary-exists}
 
+-- the list of all
 pub integer_factorizations-listed : (G : List ℕ) (x : ℤ) → IsNumericalSemigroup G → (l : List (List ℕ)) × AreFactorizations G x l
 integer_factorizations-listed G (pos n) s = (all_factorizations G n, factorizations-listed G n s.positive)
 integer_factorizations-listed G (negsuc n) s = (
@@ -26,16 +27,20 @@ integer_factorizations-listed G (negsuc n) s = (
 )
 
 module _ (G : List ℕ) (x : ℤ) (s : IsNumericalSemigroup G) where
+  -- whether there are more than b
   pub counts-decided : (b : ℕ) → Decided (Exceeds (IsIntegerFactorization G x) b)
   counts-decided b =
       let l = integer_factorizations-listed G x s in
       exceeds-decided (IsIntegerFactorization G x) l.0 b (listing-from_descending (IsIntegerFactorization G x) l.0 l.1)
 
+  -- the lengths
   pub integer_lengths-listed : (l : List ℕ) × Lists (IsLengthIn (IsIntegerFactorization G x)) l
   integer_lengths-listed = let l = integer_factorizations-listed G x s in lengths-listed (IsIntegerFactorization G x) l.0 l.1
 
+  -- the deltas
   pub integer_deltas-listed : (l : List ℕ) × Lists (IsDelta (IsIntegerFactorization G x)) l
   integer_deltas-listed = let l = integer_factorizations-listed G x s in deltas-listed (IsIntegerFactorization G x) l.0 l.1
 
+  -- the catenary degree
   pub integer_catenary-exists : (c : ℕ) × IsCatenaryOf (IsIntegerFactorization G x) c
   integer_catenary-exists = let l = integer_factorizations-listed G x s in catenary-exists (IsIntegerFactorization G x) l.0 l.1

@@ -21,29 +21,36 @@ use Rattle.sg_families.proofs.NumbersExist.{betti_elements-exist, canonical_rela
 use Rattle.sg_omega.proofs.OmegaExists.{omega-exists, semigroup_omega-exists}
 
 module _ (G : List ℕ) (s : IsNumericalSemigroup G) where
+  -- the Betti elements
   pub betti_elements-listed : (l : List ℕ) × Lists (λ n. HasTwoClasses (IsFactorization G n)) l
   betti_elements-listed = let m = members-from G s in betti_elements-exist G s.positive m.0 m.1
 
+  -- the canonical relations
   pub canonical_relations-listed : (P : List (Relation ℕ)) × IsCanonical (◌<◌) (IsFactorization G) P
   canonical_relations-listed = let m = members-from G s in canonical_relations-exist G s.positive m.0 m.1
 
+  -- the catenary degree
   pub catenary-settled : (c : ℕ) × IsCatenary (IsFactorization G) c
   catenary-settled =
       let l = betti_elements-listed in
       catenary_degree-exists (IsFactorization G) (λ n. n) (length G) (numbers-family G s.positive) l.0 l.1.exactly
 
+  -- the greatest delta, or none
   pub max_delta-settled : (r : Option ℕ) × IsMaxDelta (IsFactorization G) r
   max_delta-settled =
       let l = betti_elements-listed in
       max_delta-exists (IsFactorization G) (λ n. n) (length G) (numbers-family G s.positive) l.0 l.1.exactly
 
+  -- the omega primality of an element
   pub omega-settled : (n : ℕ) → (N : ℕ) × IsOmega G n N
   omega-settled n = let m = members-from G s in omega-exists G s.positive n m.0 m.1
 
+  -- and of the semigroup
   pub semigroup_omega-settled : (N : ℕ) × IsOmegaOfSemigroup G N
   semigroup_omega-settled = let m = members-from G s in semigroup_omega-exists G s.positive s.not_empty m.0 m.1
 
   module _ (m : IsMinimal G) where
+    -- the least delta, or none
     pub min_delta-settled : (r : Option ℕ) × IsMinDelta (IsFactorization G) r
     min_delta-settled = by (difference_gcd-exists G (first-least G m.ascending)).0 (difference_gcd-exists G (first-least G m.ascending)).1
       where
@@ -51,6 +58,7 @@ module _ (G : List ℕ) (s : IsNumericalSemigroup G) where
         by zero h = (None, min_delta-none G s (first-least G m.ascending) 0 h refl)
         by (suc g) h = (Some (suc g), min_delta-some G s (first-least G m.ascending) (suc g) h (omega arith))
 
+    -- the elasticity
     pub elasticity-settled : (p q : ℕ) × IsElasticity G p q
     elasticity-settled =
         let f = get_or G 0 0 in

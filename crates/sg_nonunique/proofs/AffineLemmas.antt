@@ -10,10 +10,12 @@ use Rattle.sg_nonunique.specs.Places.{raise, lower}
 use Rattle.sg_nonunique.proofs.SumLemmas.{get_or-plus, get_or-zeros, sum_positive, zero_or_positive}
 use Rattle.sg_nonunique.proofs.PlaceLemmas.{inside, raise-lower, length-lower}
 
+-- a multiple has as many places
 pub length-scale : (n : ℕ) (a : List ℕ) → length (scale n a) ≡ length a
 length-scale n [] = refl
 length-scale n (x ∷ a) = ap suc (length-scale n a)
 
+-- a multiple, place by place
 pub get_or-scale : (n : ℕ) (a : List ℕ) (k : ℕ) → get_or (scale n a) k 0 ≡ n * get_or a k 0
 get_or-scale n [] k = omega arith
 get_or-scale n (x ∷ a) zero = refl
@@ -32,6 +34,7 @@ module _ (d : ℕ) where
       let l : length (scale n a) ≡ d = length-scale n a ∙ All-head (λ a. length a ≡ d) a A h in
       length-plus (scale n a) (vector_value_of d A z) (l ∙ sym (length-vector_value A z (All-tail (λ a. length a ≡ d) a A h))) ∙ l
 
+  -- a generator has d places
   pub length-generator : (A : List (List ℕ)) (i : ℕ) → HaveLength A → i < length A → length (get_or A i []) ≡ d
   length-generator A i h l = h i [] l
 
@@ -69,6 +72,7 @@ module _ (d : ℕ) where
       (length-vector_value A (raise z i) h ∙ sym (length-plus v a len ∙ length-vector_value A z h))
       (λ k _. value-raise_at A z i h e l k ∙ sym (get_or-plus v a k len))
 
+  -- a vector with one less at a positive place, and that generator
   pub vector_value-lower : (A : List (List ℕ)) (z : List ℕ) (i : ℕ) → HaveLength A → length z ≡ length A → 0 < get_or z i 0 →
       vector_value_of d A z ≡ plus (vector_value_of d A (lower z i)) (get_or A i [])
   vector_value-lower A z i h e p =

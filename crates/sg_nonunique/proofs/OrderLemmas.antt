@@ -10,12 +10,15 @@ use Rattle.sg_nonunique.proofs.SumLemmas.{get_or-plus, sum-plus, length-minus, g
 
 -- ---- at each place
 
+-- a vector lies below itself
 pub below-here : (x : List ℕ) → IsBelow x x
 below-here x = (refl, (λ i. omega arith))
 
+-- what lies below a lower vector lies below the upper one
 pub below-then : (x y z : List ℕ) → IsBelow x y → IsBelow y z → IsBelow x z
 below-then x y z a b = (a.0 ∙ b.0, (λ i. omega (arith, a.1 i, b.1 i)))
 
+-- two vectors below one another are the same
 pub below-both : (x y : List ℕ) → IsBelow x y → IsBelow y x → x ≡ y
 below-both x y a b = ext_get_or 0 x y a.0 (λ i h. let e : get_or x i 0 ≡ get_or y i 0 = omega (arith, a.1 i, b.1 i) in e)
 
@@ -35,11 +38,13 @@ sum-below x y b =
 
 -- ---- the lexicographic order
 
+-- no vector is below itself
 pub lex-irreflexive : (x : List ℕ) → IsLexBelow x x → ⊥
 lex-irreflexive [] h = h
 lex-irreflexive (a ∷ x) (inl h) = omega arith
 lex-irreflexive (a ∷ x) (inr h) = lex-irreflexive x h.1
 
+-- what is below a lower vector is below the upper one
 pub lex-then : (x y z : List ℕ) → IsLexBelow x y → IsLexBelow y z → IsLexBelow x z
 lex-then [] y z h k = absurd h
 lex-then (a ∷ x) [] z h k = absurd h

@@ -15,21 +15,27 @@ inside x i h = elim (cases_lt i (length x)) [
   | inr more ↦ absurd (omega (arith, h, get_or_past x i 0 more))
 ]
 
+-- a raised vector has as many places
 pub length-raise : (x : List ℕ) (i : ℕ) → length (raise x i) ≡ length x
 length-raise x i = length-set x i (get_or x i 0 + 1)
 
+-- so has a lowered one
 pub length-lower : (x : List ℕ) (i : ℕ) → length (lower x i) ≡ length x
 length-lower x i = length-set x i (get_or x i 0 - 1)
 
+-- the raised place has one more
 pub raise-same : (x : List ℕ) (i : ℕ) → i < length x → get_or (raise x i) i 0 ≡ get_or x i 0 + 1
 raise-same x i l = get_or-set_same x i (get_or x i 0 + 1) 0 l
 
+-- the other places stay
 pub raise-other : (x : List ℕ) (i j : ℕ) → j ≢ i → get_or (raise x i) j 0 ≡ get_or x j 0
 raise-other x i j h = get_or-set_other x i j (get_or x i 0 + 1) 0 h
 
+-- the lowered place has one less
 pub lower-same : (x : List ℕ) (i : ℕ) → i < length x → get_or (lower x i) i 0 ≡ get_or x i 0 - 1
 lower-same x i l = get_or-set_same x i (get_or x i 0 - 1) 0 l
 
+-- the other places stay
 pub lower-other : (x : List ℕ) (i j : ℕ) → j ≢ i → get_or (lower x i) j 0 ≡ get_or x j 0
 lower-other x i j h = get_or-set_other x i j (get_or x i 0 - 1) 0 h
 
@@ -51,16 +57,19 @@ lower-raise x i l =
 pub value_of-raise : (G x : List ℕ) (i : ℕ) → i < length G → length x ≡ length G → value_of G (raise x i) ≡ value_of G x + get_or G i 0
 value_of-raise G x i l e = value_of-set G x i l e
 
+-- one less at a positive place takes that generator away
 pub value_of-lower : (G x : List ℕ) (i : ℕ) → length x ≡ length G → 0 < get_or x i 0 → value_of G (lower x i) + get_or G i 0 ≡ value_of G x
 value_of-lower G x i e h =
     let up = value_of-raise G (lower x i) i (omega (arith, inside x i h, e)) (length-lower x i ∙ e) in
     sym up ∙ ap (value_of G) (raise-lower x i h)
 
+-- a raised vector is longer by one
 pub sum-raise : (x : List ℕ) (i : ℕ) → i < length x → sum (raise x i) ≡ sum x + 1
 sum-raise [] i l = absurd (omega arith)
 sum-raise (a ∷ x) zero l = omega (arith, sum_by-cons (λ n. n) (a + 1) x, sum_by-cons (λ n. n) a x)
 sum-raise (a ∷ x) (suc i) l = omega (arith, sum_by-cons (λ n. n) a (raise x i), sum_by-cons (λ n. n) a x, sum-raise x i (omega arith))
 
+-- a lowered one is shorter by one
 pub sum-lower : (x : List ℕ) (i : ℕ) → 0 < get_or x i 0 → sum (lower x i) + 1 ≡ sum x
 sum-lower x i h = sym (sum-raise (lower x i) i (omega (arith, inside x i h, length-lower x i))) ∙ ap sum (raise-lower x i h)
 
@@ -73,15 +82,19 @@ plus-raise (a ∷ x) (b ∷ y) (suc i) = ap (λ v. (a + b) ∷ v) (plus-raise x 
 
 -- ---- unit vectors
 
+-- a unit vector has k places
 pub length-unit : (k j : ℕ) → length (unit k j) ≡ k
 length-unit k j = length-set (replicate k 0) j 1 ∙ length-replicate {A = ℕ} k 0
 
+-- 1 at its place
 pub unit-same : (k j : ℕ) → j < k → get_or (unit k j) j 0 ≡ 1
 unit-same k j l = get_or-set_same (replicate k 0) j 1 0 (omega (arith, length-replicate {A = ℕ} k 0))
 
+-- and 0 elsewhere
 pub unit-other : (k j i : ℕ) → i ≢ j → get_or (unit k j) i 0 ≡ 0
 unit-other k j i h = get_or-set_other (replicate k 0) j i 1 0 h ∙ get_or-zeros k i
 
+-- its length is 1
 pub sum-unit : (k j : ℕ) → j < k → sum (unit k j) ≡ 1
 sum-unit zero j l = absurd (omega arith)
 sum-unit (suc k) zero l = omega (arith, sum_by-cons (λ n. n) 1 (replicate k 0), sum-zeros k)

@@ -22,6 +22,7 @@ get_or-zeros k i = elim (cases_lt i k) [
   | inr more ↦ get_or_past (replicate k 0) i 0 (omega (arith, length-replicate {A = ℕ} k 0))
 ]
 
+-- the zero vector has length 0
 pub sum-zeros : (k : ℕ) → sum (replicate {A = ℕ} k 0) ≡ 0
 sum-zeros zero = refl
 sum-zeros (suc k) = omega (arith, sum_by-cons (λ n. n) 0 (replicate k 0), sum-zeros k)
@@ -34,6 +35,7 @@ sum_positive (a ∷ x) (suc i) h = omega (arith, sum_by-cons (λ n. n) a x, sum_
 
 -- ---- sums
 
+-- a sum, place by place
 pub get_or-plus : (x y : List ℕ) (i : ℕ) → length x ≡ length y → get_or (plus x y) i 0 ≡ get_or x i 0 + get_or y i 0
 get_or-plus [] [] i h = omega arith
 get_or-plus [] (b ∷ y) i h = absurd (omega arith)
@@ -49,6 +51,7 @@ sum-plus (a ∷ x) [] h = absurd (omega arith)
 sum-plus (a ∷ x) (b ∷ y) h =
     omega (arith, sum_by-cons (λ n. n) (a + b) (plus x y), sum_by-cons (λ n. n) a x, sum_by-cons (λ n. n) b y, sum-plus x y (omega arith))
 
+-- the zero vector adds nothing
 pub plus-zeros : (x : List ℕ) → plus x (replicate (length x) 0) ≡ x
 plus-zeros [] = refl
 plus-zeros (a ∷ x) = let e : a + 0 ≡ a = omega arith in ap (λ n. n ∷ plus x (replicate (length x) 0)) e ∙ ap (λ v. a ∷ v) (plus-zeros x)
@@ -59,11 +62,13 @@ plus-positive x y i e h = omega (arith, get_or-plus x y i e)
 
 -- ---- differences
 
+-- a difference has as many places
 pub length-minus : (x y : List ℕ) → length x ≡ length y → length (minus x y) ≡ length x
 length-minus [] y h = refl
 length-minus (a ∷ x) [] h = absurd (omega arith)
 length-minus (a ∷ x) (b ∷ y) h = let k : length x ≡ length y = omega arith in ap suc (length-minus x y k)
 
+-- a difference, place by place
 pub get_or-minus : (x y : List ℕ) (i : ℕ) → length x ≡ length y → get_or (minus x y) i 0 ≡ get_or x i 0 - get_or y i 0
 get_or-minus [] [] i h = omega arith
 get_or-minus [] (b ∷ y) i h = absurd (omega arith)

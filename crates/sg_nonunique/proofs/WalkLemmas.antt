@@ -3,9 +3,11 @@ use Rattle.std.proofs.Common.{◌≡◌, List, [], ◌∷◌, refl, sym, subst}
 use Rattle.sg_nonunique.specs.Walks.{IsWalk, IsJoined}
 
 module _ {X : Type 0} (V : X → Type 0) (R : X → X → Type 0) where
+  -- each point of the set is joined with itself
   pub joined-here : (x : X) → V x → IsJoined V R x x
   joined-here x v = ([], (v, refl))
 
+  -- two points that are related are joined
   pub joined-step : (x y : X) → V x → V y → R x y → IsJoined V R x y
   joined-step x y v w r = (y ∷ [], (v, r, (w, refl)))
 
@@ -15,6 +17,7 @@ module _ {X : Type 0} (V : X → Type 0) (R : X → X → Type 0) where
   walk-end (p ∷ []) x y w = subst V w.2.1 w.2.0
   walk-end (p ∷ q ∷ ps) x y w = walk-end (q ∷ ps) p y w.2
 
+  -- what is reached lies in the set
   pub joined-end : (x y : X) → IsJoined V R x y → V y
   joined-end x y j = walk-end j.0 x y j.1
 
@@ -27,9 +30,11 @@ module _ {X : Type 0} (V : X → Type 0) (R : X → X → Type 0) where
       let rest = walk-then (q ∷ ps) p y w.2 z j in
       (p ∷ rest.0, (w.0, w.1, rest.1))
 
+  -- one walk after another
   pub joined-then : (x y z : X) → IsJoined V R x y → IsJoined V R y z → IsJoined V R x z
   joined-then x y z i j = walk-then i.0 x y i.1 z j
 
+  -- a walk turned round, where the relation can be
   pub joined-back : ((x y : X) → R x y → R y x) → (ps : List X) (x y : X) → V y → IsWalk V R x ps y → IsJoined V R y x
   joined-back turn [] x y v w = subst (λ u. IsJoined V R y u) (sym w.1) (joined-here y v)
   joined-back turn (p ∷ []) x y v w =

@@ -10,6 +10,7 @@ use Rattle.sg_nonunique.specs.Classes.{Share, IsSameClass, HasTwoClasses}
 use Rattle.sg_finite.proofs.ElementLemmas.{pairs-nil}
 use Rattle.sg_nonunique_samples.proofs.KnownLists.{alone, by_two, two-of, six-of_two_three}
 
+-- the vectors [2] and [3]
 abbrev pub A : List (List ℕ)
 A = (2 ∷ []) ∷ (3 ∷ []) ∷ []
 
@@ -20,12 +21,14 @@ to-number (a ∷ []) n f = absurd (omega (arith, f.places))
 to-number (a ∷ b ∷ []) n f = record { places = refl; value = omega (arith, ap (λ v. get_or v 0 0) f.value) }
 to-number (a ∷ b ∷ c ∷ z) n f = absurd (omega (arith, f.places))
 
+-- and the other way round
 pub from-number : (z : List ℕ) (n : ℕ) → IsFactorization (2 ∷ 3 ∷ []) n z → IsVectorFactorization 1 ((2 ∷ []) ∷ (3 ∷ []) ∷ []) (n ∷ []) z
 from-number [] n f = absurd (omega (arith, f.places))
 from-number (a ∷ []) n f = absurd (omega (arith, f.places))
 from-number (a ∷ b ∷ []) n f = record { places = refl; value = ap (λ m. m ∷ []) (let e : get_or (vector_value_of 1 A (a ∷ b ∷ [])) 0 0 ≡ n = omega (arith, f.value) in e) }
 from-number (a ∷ b ∷ c ∷ z) n f = absurd (omega (arith, f.places))
 
+-- [6] has the factorizations of 6
 pub six : ListsDescending (IsVectorFactorization 1 ((2 ∷ []) ∷ (3 ∷ []) ∷ []) (6 ∷ [])) ((3 ∷ 0 ∷ []) ∷ (0 ∷ 2 ∷ []) ∷ [])
 six = record {
   descending = six-of_two_three.descending;
@@ -35,6 +38,7 @@ six = record {
 abbrev Six : List ℕ → Type 0
 Six = IsVectorFactorization 1 ((2 ∷ []) ∷ (3 ∷ []) ∷ []) (6 ∷ [])
 
+-- they share no place
 pub two_classes : HasTwoClasses (IsVectorFactorization 1 ((2 ∷ []) ∷ (3 ∷ []) ∷ []) (6 ∷ []))
 two_classes = (3 ∷ 0 ∷ [], 0 ∷ 2 ∷ [], record { places = refl; value = refl }, record { places = refl; value = refl }, apart)
   where
@@ -55,11 +59,13 @@ two_classes = (3 ∷ 0 ∷ [], 0 ∷ 2 ∷ [], record { places = refl; value = r
     apart : IsSameClass Six (3 ∷ 0 ∷ []) (0 ∷ 2 ∷ []) → ⊥
     apart s = let f : ◌≡◌ {A = ℕ} 0 3 = ap (λ z. get_or z 0 0) (alone Six (3 ∷ 0 ∷ []) only s.0 (0 ∷ 2 ∷ []) s.1) in omega arith
 
+-- 1 is no sum of 2 and 3
 pub not_one : IsVectorMember 1 ((2 ∷ []) ∷ (3 ∷ []) ∷ []) (1 ∷ []) → ⊥
 not_one h = let p = by_two 2 3 1 h.0 (to-number h.0 1 h.1) in omega (arith, p.3)
 
 -- ---- minimal lists
 
+-- [2] and [3] are nonzero vectors of one place
 pub two_three : IsAffineSemigroup 1 ((2 ∷ []) ∷ (3 ∷ []) ∷ [])
 two_three = record {
   not_empty = omega arith;
@@ -79,6 +85,7 @@ one-multiple g n h = at h.0 h.1.places h.1.value
     at (a ∷ []) e f = (a, omega (arith, ap (λ v. get_or v 0 0) f))
     at (a ∷ b ∷ z) e f = absurd (omega arith)
 
+-- neither is a multiple of the other
 pub minimal : IsMinimalAffine 1 ((2 ∷ []) ∷ (3 ∷ []) ∷ [])
 minimal = record {
   semigroup = two_three;

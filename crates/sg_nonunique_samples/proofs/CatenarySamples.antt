@@ -19,6 +19,7 @@ use Rattle.sg_nonunique_samples.proofs.PresentationSamples.{two_three-betti, two
 abbrev Twelve : List ℕ → Type 0
 Twelve = IsFactorization (3 ∷ 5 ∷ 7 ∷ []) 12
 
+-- 4·3 is left by no shorter step
 pub twelve-four : IsCatenaryOf (IsFactorization (3 ∷ 5 ∷ 7 ∷ []) 12) 4
 twelve-four = record { chained = λ x y p q. joined-step Twelve (λ a b. distance a b ≤ 4) x y p q (near x y p q); least = least }
   where
@@ -51,6 +52,7 @@ twelve-four = record { chained = λ x y p q. joined-step Twelve (λ a b. distanc
 abbrev Thirty : List ℕ → Type 0
 Thirty = IsFactorization (6 ∷ 10 ∷ 15 ∷ []) 30
 
+-- 5·6 is left by no shorter step
 pub thirty-five : IsCatenaryOf (IsFactorization (6 ∷ 10 ∷ 15 ∷ []) 30) 5
 thirty-five = record { chained = λ x y p q. joined-step Thirty (λ a b. distance a b ≤ 5) x y p q (near x y p q); least = least }
   where
@@ -78,6 +80,7 @@ thirty-five = record { chained = λ x y p q. joined-step Thirty (λ a b. distanc
         let y = 0 ∷ 3 ∷ 0 ∷ [] in
         unchained Thirty 3 (λ z f. f.places) x c (λ a s. subst (λ v. c < sum v) (sym (thirty-first a s)) l) y (record { places = refl; value = refl }) (record { places = refl; value = refl }) thirty-12 h
 
+-- there is nothing to chain
 pub gap-zero : IsCatenaryOf (IsFactorization (3 ∷ 5 ∷ 7 ∷ []) 4) 0
 gap-zero = record { chained = λ x y p q. absurd (contains-nil x ((four.exactly x).1 p)); least = λ c l h. omega arith }
 
@@ -86,6 +89,7 @@ gap-zero = record { chained = λ x y p q. absurd (contains-nil x ((four.exactly 
 abbrev F : ℕ → List ℕ → Type 0
 F = IsFactorization (2 ∷ 3 ∷ [])
 
+-- 6 has the classes of 3·2 and 2·3
 pub two_three : IsCatenary (IsFactorization (2 ∷ 3 ∷ [])) 3
 two_three = catenary-from_classes F (λ n. n) 2 two_three-family 3 (record { bound = bound; reached = reached })
   where
@@ -109,6 +113,7 @@ two_three = catenary-from_classes F (λ n. n) 2 two_three-family 3 (record { bou
       λ a s. subst (λ v. 3 ≤ sum v) (sym (six-first a s)) (omega arith),
     )
 
+-- each number has one factorization
 pub naturals : IsCatenary (IsFactorization (1 ∷ [])) 0
 naturals = record { chained = chained; least = λ c l. absurd (omega arith) }
   where

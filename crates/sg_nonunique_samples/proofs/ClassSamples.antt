@@ -31,6 +31,7 @@ no_share-2 a b p q x y s = at s.0 s.1 s.2
 abbrev Twelve : List ℕ → Type 0
 Twelve = IsFactorization (3 ∷ 5 ∷ 7 ∷ []) 12
 
+-- 4·3 shares nothing with 5 + 7
 pub twelve-first : (y : List ℕ) → IsSameClass Twelve (4 ∷ 0 ∷ 0 ∷ []) y → y ≡ 4 ∷ 0 ∷ 0 ∷ []
 twelve-first y s = alone Twelve (4 ∷ 0 ∷ 0 ∷ []) only s.0 y s.1
   where
@@ -43,6 +44,7 @@ twelve-first y s = alone Twelve (4 ∷ 0 ∷ 0 ∷ []) only s.0 y s.1
 abbrev Ten : List ℕ → Type 0
 Ten = IsFactorization (3 ∷ 5 ∷ 7 ∷ []) 10
 
+-- 2·5 shares nothing with 3 + 7
 pub ten-second : (y : List ℕ) → IsSameClass Ten (0 ∷ 2 ∷ 0 ∷ []) y → y ≡ 0 ∷ 2 ∷ 0 ∷ []
 ten-second y s = alone Ten (0 ∷ 2 ∷ 0 ∷ []) only s.0 y s.1
   where
@@ -52,12 +54,14 @@ ten-second y s = alone Ten (0 ∷ 2 ∷ 0 ∷ []) only s.0 y s.1
       | inl e ↦ absurd (no_share-3 0 2 0 1 0 1 (λ a b. omega arith) (λ a b. omega arith) (λ a b. omega arith) (subst (Share (0 ∷ 2 ∷ 0 ∷ [])) e s))
     ]
 
+-- 10 has two classes
 pub two_classes : HasTwoClasses (IsFactorization (3 ∷ 5 ∷ 7 ∷ []) 10)
 two_classes = (0 ∷ 2 ∷ 0 ∷ [], 1 ∷ 0 ∷ 1 ∷ [], record { places = refl; value = refl }, record { places = refl; value = refl }, apart)
   where
     apart : IsSameClass Ten (0 ∷ 2 ∷ 0 ∷ []) (1 ∷ 0 ∷ 1 ∷ []) → ⊥
     apart s = let f : ◌≡◌ {A = ℕ} 1 0 = ap (λ z. get_or z 0 0) (ten-second (1 ∷ 0 ∷ 1 ∷ []) s) in omega arith
 
+-- 0 has one
 pub zero-one_class : HasTwoClasses (IsFactorization (3 ∷ 5 ∷ 7 ∷ []) 0) → ⊥
 zero-one_class = no_classes_of_zero (3 ∷ 5 ∷ 7 ∷ []) (positive-3 3 5 7 (omega arith) (omega arith) (omega arith)) 0 refl
 
@@ -82,6 +86,7 @@ with_last x f = elim (three-of (4 ∷ 1 ∷ 0 ∷ []) (1 ∷ 0 ∷ 2 ∷ []) (0 
     last : Seventeen (0 ∷ 2 ∷ 1 ∷ [])
     last = record { places = refl; value = refl }
 
+-- 17 has one
 pub seventeen-one_class : HasTwoClasses (IsFactorization (3 ∷ 5 ∷ 7 ∷ []) 17) → ⊥
 seventeen-one_class h =
     let m = 0 ∷ 2 ∷ 1 ∷ [] in
@@ -92,6 +97,7 @@ seventeen-one_class h =
 abbrev Thirty : List ℕ → Type 0
 Thirty = IsFactorization (6 ∷ 10 ∷ 15 ∷ []) 30
 
+-- 5·6 is alone
 pub thirty-first : (y : List ℕ) → IsSameClass Thirty (5 ∷ 0 ∷ 0 ∷ []) y → y ≡ 5 ∷ 0 ∷ 0 ∷ []
 thirty-first y s = alone Thirty (5 ∷ 0 ∷ 0 ∷ []) only s.0 y s.1
   where
@@ -104,6 +110,7 @@ thirty-first y s = alone Thirty (5 ∷ 0 ∷ 0 ∷ []) only s.0 y s.1
       ]
     ]
 
+-- so is 3·10
 pub thirty-middle : (y : List ℕ) → IsSameClass Thirty (0 ∷ 3 ∷ 0 ∷ []) y → y ≡ 0 ∷ 3 ∷ 0 ∷ []
 thirty-middle y s = alone Thirty (0 ∷ 3 ∷ 0 ∷ []) only s.0 y s.1
   where
@@ -116,6 +123,7 @@ thirty-middle y s = alone Thirty (0 ∷ 3 ∷ 0 ∷ []) only s.0 y s.1
       ]
     ]
 
+-- and 2·15
 pub thirty-last : (y : List ℕ) → IsSameClass Thirty (0 ∷ 0 ∷ 2 ∷ []) y → y ≡ 0 ∷ 0 ∷ 2 ∷ []
 thirty-last y s = alone Thirty (0 ∷ 0 ∷ 2 ∷ []) only s.0 y s.1
   where
@@ -128,12 +136,15 @@ thirty-last y s = alone Thirty (0 ∷ 0 ∷ 2 ∷ []) only s.0 y s.1
       ]
     ]
 
+-- 5·6 and 3·10
 pub thirty-12 : IsSameClass Thirty (5 ∷ 0 ∷ 0 ∷ []) (0 ∷ 3 ∷ 0 ∷ []) → ⊥
 thirty-12 s = let f : ◌≡◌ {A = ℕ} 0 5 = ap (λ z. get_or z 0 0) (thirty-first (0 ∷ 3 ∷ 0 ∷ []) s) in omega arith
 
+-- 5·6 and 2·15
 pub thirty-13 : IsSameClass Thirty (5 ∷ 0 ∷ 0 ∷ []) (0 ∷ 0 ∷ 2 ∷ []) → ⊥
 thirty-13 s = let f : ◌≡◌ {A = ℕ} 0 5 = ap (λ z. get_or z 0 0) (thirty-first (0 ∷ 0 ∷ 2 ∷ []) s) in omega arith
 
+-- 3·10 and 2·15
 pub thirty-23 : IsSameClass Thirty (0 ∷ 3 ∷ 0 ∷ []) (0 ∷ 0 ∷ 2 ∷ []) → ⊥
 thirty-23 s = let f : ◌≡◌ {A = ℕ} 0 3 = ap (λ z. get_or z 1 0) (thirty-middle (0 ∷ 0 ∷ 2 ∷ []) s) in omega arith
 
@@ -142,6 +153,7 @@ thirty-23 s = let f : ◌≡◌ {A = ℕ} 0 3 = ap (λ z. get_or z 1 0) (thirty-
 abbrev Six : List ℕ → Type 0
 Six = IsFactorization (2 ∷ 3 ∷ []) 6
 
+-- 3·2 is alone
 pub six-first : (y : List ℕ) → IsSameClass Six (3 ∷ 0 ∷ []) y → y ≡ 3 ∷ 0 ∷ []
 six-first y s = alone Six (3 ∷ 0 ∷ []) only s.0 y s.1
   where
@@ -151,6 +163,7 @@ six-first y s = alone Six (3 ∷ 0 ∷ []) only s.0 y s.1
       | inr e ↦ absurd (no_share-2 3 0 0 2 (λ a b. omega arith) (λ a b. omega arith) (subst (Share (3 ∷ 0 ∷ [])) e s))
     ]
 
+-- so is 2·3
 pub six-second : (y : List ℕ) → IsSameClass Six (0 ∷ 2 ∷ []) y → y ≡ 0 ∷ 2 ∷ []
 six-second y s = alone Six (0 ∷ 2 ∷ []) only s.0 y s.1
   where
@@ -160,9 +173,11 @@ six-second y s = alone Six (0 ∷ 2 ∷ []) only s.0 y s.1
       | inr e ↦ e
     ]
 
+-- 6 has two classes
 pub six-apart : IsSameClass Six (3 ∷ 0 ∷ []) (0 ∷ 2 ∷ []) → ⊥
 six-apart s = let f : ◌≡◌ {A = ℕ} 0 3 = ap (λ z. get_or z 0 0) (six-first (0 ∷ 2 ∷ []) s) in omega arith
 
+-- 3 has one factorization
 pub three-one_class : HasTwoClasses (IsFactorization (2 ∷ 3 ∷ []) 3) → ⊥
 three-one_class h =
     let V = IsFactorization (2 ∷ 3 ∷ []) 3 in

@@ -116,8 +116,10 @@ items-different =
     second : ◌≡◌ {A = Item} (3 ∷ [], 0 ∷ []) (3 ∷ [], 1 ∷ []) → ⊥
     second e = let f : ◌≡◌ {A = ℕ} 0 1 = ap (λ (x : Item). get_or x.1 0 0) e in omega arith
 
+-- three items are more than two
 pub above_2 : Exceeds (IsConstructionItem ((3 ∷ []) ∷ (2 ∷ []) ∷ (3 ∷ []) ∷ [])) 2
 above_2 = exceeds-from_listing (IsConstructionItem given) items 2 (record { different = items-different; exactly = λ x. (listed-item x, item-listed x) }) (omega arith)
 
+-- and no more than three
 pub within_3 : Exceeds (IsConstructionItem ((3 ∷ []) ∷ (2 ∷ []) ∷ (3 ∷ []) ∷ [])) 3 → ⊥
 within_3 h = let l : 3 < 3 = listing-from_exceeds (IsConstructionItem given) items 3 item-listed h in omega arith

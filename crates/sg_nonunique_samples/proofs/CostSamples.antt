@@ -13,19 +13,23 @@ use Rattle.sg_nonunique_samples.proofs.EquationSamples.{columns, atom-from, belo
 
 -- ---- vectors with a value up to a bound
 
+-- seven vectors
 pub partial-six : ListsDescending (IsPartial 1 ((2 ∷ []) ∷ (3 ∷ []) ∷ []) (6 ∷ []))
     ((3 ∷ 0 ∷ []) ∷ (2 ∷ 0 ∷ []) ∷ (1 ∷ 1 ∷ []) ∷ (1 ∷ 0 ∷ []) ∷ (0 ∷ 2 ∷ []) ∷ (0 ∷ 1 ∷ []) ∷ (0 ∷ 0 ∷ []) ∷ [])
 unfolding levels all_partial
 partial-six = partial-listed 1 ((2 ∷ []) ∷ (3 ∷ []) ∷ []) (6 ∷ []) two_three.dimension two_three.nonzero refl
 
+-- two vectors
 pub partial-two : ListsDescending (IsPartial 1 ((2 ∷ []) ∷ (3 ∷ []) ∷ []) (2 ∷ [])) ((1 ∷ 0 ∷ []) ∷ (0 ∷ 0 ∷ []) ∷ [])
 unfolding levels all_partial
 partial-two = partial-listed 1 ((2 ∷ []) ∷ (3 ∷ []) ∷ []) (2 ∷ []) two_three.dimension two_three.nonzero refl
 
+-- three vectors
 pub partial-three : ListsDescending (IsPartial 1 ((2 ∷ []) ∷ (3 ∷ []) ∷ []) (3 ∷ [])) ((1 ∷ 0 ∷ []) ∷ (0 ∷ 1 ∷ []) ∷ (0 ∷ 0 ∷ []) ∷ [])
 unfolding levels all_partial
 partial-three = partial-listed 1 ((2 ∷ []) ∷ (3 ∷ []) ∷ []) (3 ∷ []) two_three.dimension two_three.nonzero refl
 
+-- a negative vector has none
 pub partial-negative : (z : List ℕ) → IsIntegerPartial 1 ((2 ∷ []) ∷ (3 ∷ []) ∷ []) (negsuc 0 ∷ []) z → ⊥
 partial-negative z h = h
 
@@ -89,6 +93,7 @@ value-of_atom a b c d h = elim (cases_lt 0 a) [
       | inr no_b ↦ without_bd no_ac (inl (omega arith))
     ]
 
+-- so the values are three
 pub atom_values : (v : List ℕ) → IsAtomValue 1 ((2 ∷ []) ∷ (3 ∷ []) ∷ []) v ↔ ((v ≡ 2 ∷ []) ⊎ ((v ≡ 3 ∷ []) ⊎ (v ≡ 6 ∷ [])))
 atom_values v = ((λ h. to h.0 h.1 h.2 h.3), from)
   where

@@ -132,11 +132,13 @@ counted-listed (partial v z) h = elim ((atom_values v).0 h.0) [
   ]
 ]
 
+-- 26 items are more than 25
 pub above_25 : Exceeds (IsCounted 1 ((2 ∷ []) ∷ (3 ∷ []) ∷ [])) 25
 above_25 =
     exceeds-from_listing (IsCounted 1 A) counted 25 (record { different = all-different; exactly = λ x. (listed-counted x, counted-listed x) })
     (let e : length counted ≡ 26 = refl in omega (arith, e))
 
+-- and no more than 26
 pub within_26 : Exceeds (IsCounted 1 ((2 ∷ []) ∷ (3 ∷ []) ∷ [])) 26 → ⊥
 within_26 h =
     let e : length counted ≡ 26 = refl in

@@ -15,6 +15,7 @@ use Rattle.sg_families.proofs.DifferenceLemmas.{min_delta-none, min_delta-some}
 use Rattle.sg_nonunique_samples.proofs.FactorizationSamples.{increasing-2, lengths-twelve, lengths-thirty}
 use Rattle.sg_nonunique_samples.proofs.KnownLists.{by_one, by_two, one-of, two-of, three-of, positive-2}
 
+-- of 12 in <3, 5, 7>
 pub deltas-twelve : Lists (IsDelta (IsFactorization (3 ∷ 5 ∷ 7 ∷ []) 12)) (2 ∷ [])
 deltas-twelve = record { ascending = λ k l. absurd (omega arith); exactly = λ d. (to d, from d) }
   where
@@ -47,6 +48,7 @@ deltas-twelve = record { ascending = λ k l. absurd (omega arith); exactly = λ 
     from : (d : ℕ) → IsDelta (IsFactorization (3 ∷ 5 ∷ 7 ∷ []) 12) d → Contains (2 ∷ []) d
     from d h = subst (Contains (2 ∷ [])) (sym (only d h)) (here 2 [])
 
+-- of 30 in <6, 10, 15>
 pub deltas-thirty : Lists (IsDelta (IsFactorization (6 ∷ 10 ∷ 15 ∷ []) 30)) (1 ∷ 2 ∷ [])
 deltas-thirty = record { ascending = increasing-2 1 2 (omega arith); exactly = λ d. (to d, from d) }
   where
@@ -107,6 +109,7 @@ one = record {
   coprime = λ d h. le_of_dvd (omega arith) (h 0 0 (omega arith));
 }
 
+-- 5 - 3
 pub least-two : IsMinDelta (IsFactorization (3 ∷ 5 ∷ [])) (Some 2)
 least-two = min_delta-some (3 ∷ 5 ∷ []) three_five more 2 (record { divides = divides; greatest = λ d h. h 1 (omega arith) }) (omega arith)
   where
@@ -151,6 +154,7 @@ greatest-two = record { none = tt; some = (15, two); greatest = λ d t. small t.
           absurd (h.none_between (h.lower + 2) (omega arith) (omega (arith, many)) between)
     ]
 
+-- the one generator has no difference
 pub naturals-least : IsMinDelta (IsFactorization (1 ∷ [])) None
 naturals-least = min_delta-none (1 ∷ []) one more 0 (record { divides = divides; greatest = λ d h. dvd-zero d }) refl
   where
@@ -162,6 +166,7 @@ naturals-least = min_delta-none (1 ∷ []) one more 0 (record { divides = divide
     divides zero l = dvd-zero 0
     divides (suc i) l = absurd (omega arith)
 
+-- each number has one length
 pub naturals-greatest : IsMaxDelta (IsFactorization (1 ∷ [])) None
 naturals-greatest = record { none = λ d t. none t.0 d t.1; some = tt; greatest = tt }
   where

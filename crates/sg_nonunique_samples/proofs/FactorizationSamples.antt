@@ -15,9 +15,11 @@ use Rattle.sg_finite.proofs.CountLemmas.{exceeds-from_listing, listing-from_exce
 use Rattle.sg_finite.proofs.ElementLemmas.{contains-nil, here, later, pairs-nil}
 use Rattle.sg_nonunique_samples.proofs.KnownLists.{by_one, by_two, one-of, two-of, three-of, twelve, thirty}
 
+-- a negative integer has none
 pub negative : AreFactorizations (3 ∷ 5 ∷ 7 ∷ []) (negsuc 2) []
 negative = record { descending = pairs-nil (λ x y. IsLexBelow y x); exactly = λ z. ((λ h. absurd (contains-nil z h)), (λ f. absurd f)) }
 
+-- each natural has one by 1
 pub naturals : (n : ℕ) → AreFactorizations (1 ∷ []) (pos n) ((n ∷ []) ∷ [])
 naturals n = record {
   descending = AllPairs-cons (λ x y. IsLexBelow y x) (n ∷ []) [] (All-nil (λ y. IsLexBelow y (n ∷ []))) (pairs-nil (λ x y. IsLexBelow y x));
@@ -32,12 +34,14 @@ naturals n = record {
 
 -- ---- lengths
 
+-- two numbers in order
 pub increasing-2 : (a b : ℕ) → a < b → IsStrictlyIncreasing (a ∷ b ∷ [])
 increasing-2 a b l k inside = at k inside
   where
     at : (k : ℕ) → k + 1 < 2 → get_or (a ∷ b ∷ []) k 0 < get_or (a ∷ b ∷ []) (k + 1) 0
     at k inside = let e : k ≡ 0 = omega arith in subst (λ i. get_or (a ∷ b ∷ []) i 0 < get_or (a ∷ b ∷ []) (i + 1) 0) (sym e) l
 
+-- of 12 in <3, 5, 7>
 pub lengths-twelve : Lists (IsLengthIn (IsFactorization (3 ∷ 5 ∷ 7 ∷ []) 12)) (2 ∷ 4 ∷ [])
 lengths-twelve = record { ascending = increasing-2 2 4 (omega arith); exactly = λ n. (to n, from n) }
   where
@@ -65,12 +69,14 @@ lengths-thirty n h = elim (three-of (5 ∷ 0 ∷ 0 ∷ []) (0 ∷ 3 ∷ 0 ∷ []
 
 -- ---- counts
 
+-- three are more than two
 pub above_two : Exceeds (IsFactorization (6 ∷ 10 ∷ 15 ∷ []) 30) 2
 above_two =
     let V = IsFactorization (6 ∷ 10 ∷ 15 ∷ []) 30 in
     exceeds-from_listing V ((5 ∷ 0 ∷ 0 ∷ []) ∷ (0 ∷ 3 ∷ 0 ∷ []) ∷ (0 ∷ 0 ∷ 2 ∷ []) ∷ []) 2
     (listing-from_descending V ((5 ∷ 0 ∷ 0 ∷ []) ∷ (0 ∷ 3 ∷ 0 ∷ []) ∷ (0 ∷ 0 ∷ 2 ∷ []) ∷ []) thirty) (omega arith)
 
+-- and no more than three
 pub not_above_three : Exceeds (IsFactorization (6 ∷ 10 ∷ 15 ∷ []) 30) 3 → ⊥
 not_above_three h =
     let V = IsFactorization (6 ∷ 10 ∷ 15 ∷ []) 30 in
@@ -79,6 +85,7 @@ not_above_three h =
 
 -- ---- elasticities
 
+-- 15 has the lengths 5 and 3
 pub five_thirds : IsElasticity (3 ∷ 5 ∷ []) 5 3
 five_thirds = record {
   positive = omega arith;
@@ -97,6 +104,7 @@ five_thirds = record {
 pub not_ten_sixths : IsElasticity (3 ∷ 5 ∷ []) 10 6 → ⊥
 not_ten_sixths h = let l : 2 ≤ 1 = le_of_dvd (omega arith) (h.lowest.2 2 (dvd_of_mod-eq-zero 2 refl) (dvd_of_mod-eq-zero 2 refl)) in omega arith
 
+-- each natural has one length
 pub naturals-one : IsElasticity (1 ∷ []) 1 1
 naturals-one = record {
   positive = omega arith;

@@ -27,6 +27,7 @@ pairs = (0 ∷ 0 ∷ 0 ∷ 1 ∷ [])
 
 -- ---- one step
 
+-- no other nonzero solution lies below q
 abbrev pub IsFree : List ℕ → Type 0
 IsFree q = (s : List ℕ) → IsSolution 1 columns s → s ≢ 0 ∷ 0 ∷ 0 ∷ 0 ∷ [] → s ≢ q → IsBelow s q → ⊥
 
@@ -138,6 +139,7 @@ grown-2002 = (3, omega arith, ((1 ∷ 0 ∷ 0 ∷ 1 ∷ []) ∷ (2 ∷ 0 ∷ 0 �
 grown-3002 : IsGrown 1 columns (3 ∷ 0 ∷ 0 ∷ 2 ∷ [])
 grown-3002 = (3, omega arith, ((1 ∷ 0 ∷ 0 ∷ 1 ∷ []) ∷ (2 ∷ 0 ∷ 0 ∷ 1 ∷ []) ∷ (2 ∷ 0 ∷ 0 ∷ 2 ∷ []) ∷ (3 ∷ 0 ∷ 0 ∷ 2 ∷ []) ∷ [], (tt, step-0001-1001, (tt, step-1001-2001, (tt, step-2001-2002, (tt, step-2002-3002, (tt, refl)))))))
 
+-- all of them
 pub all-grown : All (IsGrown 1 columns) pairs
 all-grown = All-cons (IsGrown 1 columns) (0 ∷ 0 ∷ 0 ∷ 1 ∷ []) ((0 ∷ 0 ∷ 1 ∷ 0 ∷ []) ∷ (0 ∷ 1 ∷ 0 ∷ 0 ∷ []) ∷ (0 ∷ 1 ∷ 0 ∷ 1 ∷ []) ∷ (0 ∷ 1 ∷ 1 ∷ 0 ∷ []) ∷ (0 ∷ 1 ∷ 2 ∷ 0 ∷ []) ∷ (0 ∷ 2 ∷ 2 ∷ 0 ∷ []) ∷ (0 ∷ 2 ∷ 3 ∷ 0 ∷ []) ∷ (1 ∷ 0 ∷ 0 ∷ 0 ∷ []) ∷ (1 ∷ 0 ∷ 0 ∷ 1 ∷ []) ∷ (1 ∷ 0 ∷ 1 ∷ 0 ∷ []) ∷ (2 ∷ 0 ∷ 0 ∷ 1 ∷ []) ∷ (2 ∷ 0 ∷ 0 ∷ 2 ∷ []) ∷ (3 ∷ 0 ∷ 0 ∷ 2 ∷ []) ∷ []) grown-0001
     (All-cons (IsGrown 1 columns) (0 ∷ 0 ∷ 1 ∷ 0 ∷ []) ((0 ∷ 1 ∷ 0 ∷ 0 ∷ []) ∷ (0 ∷ 1 ∷ 0 ∷ 1 ∷ []) ∷ (0 ∷ 1 ∷ 1 ∷ 0 ∷ []) ∷ (0 ∷ 1 ∷ 2 ∷ 0 ∷ []) ∷ (0 ∷ 2 ∷ 2 ∷ 0 ∷ []) ∷ (0 ∷ 2 ∷ 3 ∷ 0 ∷ []) ∷ (1 ∷ 0 ∷ 0 ∷ 0 ∷ []) ∷ (1 ∷ 0 ∷ 0 ∷ 1 ∷ []) ∷ (1 ∷ 0 ∷ 1 ∷ 0 ∷ []) ∷ (2 ∷ 0 ∷ 0 ∷ 1 ∷ []) ∷ (2 ∷ 0 ∷ 0 ∷ 2 ∷ []) ∷ (3 ∷ 0 ∷ 0 ∷ 2 ∷ []) ∷ []) grown-0010

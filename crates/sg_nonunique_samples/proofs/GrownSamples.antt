@@ -172,6 +172,7 @@ ascends : (x : List ℕ) (ys : List (List ℕ)) → Climbs x ys → AllPairs IsL
 ascends x [] h = AllPairs-cons IsLexBelow x [] (All-nil (IsLexBelow x)) (pairs-nil IsLexBelow)
 ascends x (y ∷ ys) h = AllPairs-cons IsLexBelow x (y ∷ ys) (first-below x (y ∷ ys) h) (ascends y ys h.1)
 
+-- they are all that grow, in order
 pub grown-pairs : ListsAscending (IsGrown 1 (pair_columns ((2 ∷ []) ∷ (3 ∷ []) ∷ []))) pairs
 grown-pairs = record {
   ascending = ascends (0 ∷ 0 ∷ 0 ∷ 1 ∷ []) ((0 ∷ 0 ∷ 1 ∷ 0 ∷ []) ∷ (0 ∷ 1 ∷ 0 ∷ 0 ∷ []) ∷ (0 ∷ 1 ∷ 0 ∷ 1 ∷ []) ∷ (0 ∷ 1 ∷ 1 ∷ 0 ∷ []) ∷ (0 ∷ 1 ∷ 2 ∷ 0 ∷ []) ∷ (0 ∷ 2 ∷ 2 ∷ 0 ∷ []) ∷ (0 ∷ 2 ∷ 3 ∷ 0 ∷ []) ∷ (1 ∷ 0 ∷ 0 ∷ 0 ∷ []) ∷ (1 ∷ 0 ∷ 0 ∷ 1 ∷ []) ∷ (1 ∷ 0 ∷ 1 ∷ 0 ∷ []) ∷ (2 ∷ 0 ∷ 0 ∷ 1 ∷ []) ∷ (2 ∷ 0 ∷ 0 ∷ 2 ∷ []) ∷ (3 ∷ 0 ∷ 0 ∷ 2 ∷ []) ∷ [])

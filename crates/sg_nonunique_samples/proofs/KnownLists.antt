@@ -14,20 +14,25 @@ use Rattle.sg_finite.proofs.WalkDecisions.{walk-start}
 
 -- ---- generators
 
+-- two positive generators
 pub positive-2 : (a b : ℕ) → 1 ≤ a → 1 ≤ b → All (λ g. 1 ≤ g) (a ∷ b ∷ [])
 positive-2 a b p q = All-cons (λ g. 1 ≤ g) a (b ∷ []) p (All-cons (λ g. 1 ≤ g) b [] q (All-nil (λ g. 1 ≤ g)))
 
+-- three positive generators
 pub positive-3 : (a b c : ℕ) → 1 ≤ a → 1 ≤ b → 1 ≤ c → All (λ g. 1 ≤ g) (a ∷ b ∷ c ∷ [])
 positive-3 a b c p q r = All-cons (λ g. 1 ≤ g) a (b ∷ c ∷ []) p (positive-2 b c q r)
 
+-- the computed list is that of the factorizations
 pub listed : (G : List ℕ) (n : ℕ) (l : List (List ℕ)) → All (λ g. 1 ≤ g) G → all_factorizations G n ≡ l → ListsDescending (IsFactorization G n) l
 listed G n l p e = subst (ListsDescending (IsFactorization G n)) e (factorizations-listed G n p)
 
+-- a factorization by one generator is one number
 pub by_one : (g n : ℕ) (z : List ℕ) → IsFactorization (g ∷ []) n z → (a : ℕ) × (z ≡ a ∷ []) × (a * g ≡ n)
 by_one g n [] f = absurd (omega (arith, f.places))
 by_one g n (a ∷ []) f = (a, refl, omega (arith, f.value))
 by_one g n (a ∷ b ∷ z) f = absurd (omega (arith, f.places))
 
+-- and by two it is two numbers
 pub by_two : (g h n : ℕ) (z : List ℕ) → IsFactorization (g ∷ h ∷ []) n z → (a b : ℕ) × (z ≡ a ∷ b ∷ []) × (a * g + b * h ≡ n)
 by_two g h n [] f = absurd (omega (arith, f.places))
 by_two g h n (a ∷ []) f = absurd (omega (arith, f.places))
@@ -41,10 +46,12 @@ pub twelve : ListsDescending (IsFactorization (3 ∷ 5 ∷ 7 ∷ []) 12) ((4 ∷
 unfolding levels all_factorizations
 twelve = listed (3 ∷ 5 ∷ 7 ∷ []) 12 ((4 ∷ 0 ∷ 0 ∷ []) ∷ (0 ∷ 1 ∷ 1 ∷ []) ∷ []) (positive-3 3 5 7 (omega arith) (omega arith) (omega arith)) refl
 
+-- 10 = 3 + 7 = 2·5
 pub ten : ListsDescending (IsFactorization (3 ∷ 5 ∷ 7 ∷ []) 10) ((1 ∷ 0 ∷ 1 ∷ []) ∷ (0 ∷ 2 ∷ 0 ∷ []) ∷ [])
 unfolding levels all_factorizations
 ten = listed (3 ∷ 5 ∷ 7 ∷ []) 10 ((1 ∷ 0 ∷ 1 ∷ []) ∷ (0 ∷ 2 ∷ 0 ∷ []) ∷ []) (positive-3 3 5 7 (omega arith) (omega arith) (omega arith)) refl
 
+-- 4 is a gap
 pub four : ListsDescending (IsFactorization (3 ∷ 5 ∷ 7 ∷ []) 4) []
 unfolding levels all_factorizations
 four = listed (3 ∷ 5 ∷ 7 ∷ []) 4 [] (positive-3 3 5 7 (omega arith) (omega arith) (omega arith)) refl
@@ -59,18 +66,22 @@ pub three-of_two_three : ListsDescending (IsFactorization (2 ∷ 3 ∷ []) 3) ((
 unfolding levels all_factorizations
 three-of_two_three = listed (2 ∷ 3 ∷ []) 3 ((0 ∷ 1 ∷ []) ∷ []) (positive-2 2 3 (omega arith) (omega arith)) refl
 
+-- 6 = 3·2 = 2·3
 pub six-of_two_three : ListsDescending (IsFactorization (2 ∷ 3 ∷ []) 6) ((3 ∷ 0 ∷ []) ∷ (0 ∷ 2 ∷ []) ∷ [])
 unfolding levels all_factorizations
 six-of_two_three = listed (2 ∷ 3 ∷ []) 6 ((3 ∷ 0 ∷ []) ∷ (0 ∷ 2 ∷ []) ∷ []) (positive-2 2 3 (omega arith) (omega arith)) refl
 
 -- ---- what is one of few
 
+-- one of one
 pub one-of : {A : Type 0} (a x : A) → Contains (a ∷ []) x → x ≡ a
 one-of a x h = elim (contains-cases a [] x h) [ inl e ↦ sym e | inr none ↦ absurd (contains-nil x none) ]
 
+-- one of two
 pub two-of : {A : Type 0} (a b x : A) → Contains (a ∷ b ∷ []) x → (x ≡ a) ⊎ (x ≡ b)
 two-of a b x h = elim (contains-cases a (b ∷ []) x h) [ inl e ↦ inl (sym e) | inr rest ↦ inr (one-of b x rest) ]
 
+-- one of three
 pub three-of : {A : Type 0} (a b c x : A) → Contains (a ∷ b ∷ c ∷ []) x → (x ≡ a) ⊎ ((x ≡ b) ⊎ (x ≡ c))
 three-of a b c x h = elim (contains-cases a (b ∷ c ∷ []) x h) [ inl e ↦ inl (sym e) | inr rest ↦ inr (two-of b c x rest) ]
 

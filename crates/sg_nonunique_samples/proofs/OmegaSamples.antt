@@ -37,6 +37,7 @@ none c v l q e = let p = by_two 3 5 v q.0 q.1 in at c l e p.0 p.1 p.3
 twelve : IsMember (3 ∷ 5 ∷ []) 12
 twelve = (4 ∷ 0 ∷ [], record { places = refl; value = refl })
 
+-- 3·5 lies above 3, and no fewer 5
 pub omega-three : IsOmega (3 ∷ 5 ∷ []) 3 3
 omega-three = record { serves = serves; least = least }
   where
@@ -69,6 +70,7 @@ omega-zero = record { serves = serves; least = λ N l s. omega arith }
         let p = by_two 3 5 (0 + h.1.0) z (record { places = h.0; value = h.1.2 }) in
         (0 ∷ 0 ∷ [], subst (IsBelow (0 ∷ 0 ∷ [])) (sym p.2) (below-2 0 0 p.0 p.1 (omega arith) (omega arith)), omega arith, (refl, (0, member-zero (3 ∷ 5 ∷ []), refl)))
 
+-- 1 lies below all that is above it
 pub omega-one : IsOmega (1 ∷ []) 1 1
 omega-one = record { serves = serves; least = least }
   where
@@ -84,6 +86,7 @@ omega-one = record { serves = serves; least = least }
         let short : sum (p.0 ∷ []) ≤ N = subst (λ x. sum x ≤ N) p.1 y.2 in
         omega (arith, p.2, short)
 
+-- the one generator is 1
 pub naturals : IsOmegaOfSemigroup (1 ∷ []) 1
 naturals = record { reached = (1, here 1 [], omega-one); greatest = greatest }
   where

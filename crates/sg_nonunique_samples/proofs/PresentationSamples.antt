@@ -30,6 +30,7 @@ alone-greatest V x v only = record {
 abbrev F : ℕ → List ℕ → Type 0
 F = IsFactorization (2 ∷ 3 ∷ [])
 
+-- the factorizations by 2 and 3
 pub two_three-family : IsFamily (IsFactorization (2 ∷ 3 ∷ [])) (λ n. n) 2
 two_three-family = numbers-family (2 ∷ 3 ∷ []) (positive-2 2 3 (omega arith) (omega arith))
 
@@ -87,6 +88,7 @@ six-only r h =
         let f : relation 6 r.left r.right ≡ relation 6 (3 ∷ 0 ∷ []) r.right = ap (λ x. relation 6 x r.right) b in
         e ∙ f ∙ ap (λ y. relation 6 (3 ∷ 0 ∷ []) y) c
 
+-- the one relation is all
 pub six-canonical : IsCanonical (◌<◌) (IsFactorization (2 ∷ 3 ∷ [])) (relation 6 (3 ∷ 0 ∷ []) (0 ∷ 2 ∷ []) ∷ [])
 six-canonical = record {
   ordered = λ i j d l m. absurd (omega arith);
@@ -94,12 +96,15 @@ six-canonical = record {
   whole = λ r h. subst (Contains (relation 6 (3 ∷ 0 ∷ []) (0 ∷ 2 ∷ []) ∷ [])) (sym (six-only r h)) (here (relation 6 (3 ∷ 0 ∷ []) (0 ∷ 2 ∷ [])) []);
 }
 
+-- it is a relation
 pub six-relations : AreRelations (IsFactorization (2 ∷ 3 ∷ [])) (relation 6 (3 ∷ 0 ∷ []) (0 ∷ 2 ∷ []) ∷ [])
 six-relations = canonical-relations F (λ n. n) 2 two_three-family (◌<◌) (relation 6 (3 ∷ 0 ∷ []) (0 ∷ 2 ∷ []) ∷ []) six-canonical
 
+-- it joins any two factorizations
 pub six-presents : Presents (IsFactorization (2 ∷ 3 ∷ [])) (relation 6 (3 ∷ 0 ∷ []) (0 ∷ 2 ∷ []) ∷ [])
 six-presents = canonical-presents F (λ n. n) 2 two_three-family (◌<◌) (relation 6 (3 ∷ 0 ∷ []) (0 ∷ 2 ∷ []) ∷ []) six-canonical
 
+-- without it nothing does
 pub six-needed : IsNoneSpare (IsFactorization (2 ∷ 3 ∷ [])) (relation 6 (3 ∷ 0 ∷ []) (0 ∷ 2 ∷ []) ∷ [])
 six-needed = canonical-none_spare F (λ n. n) 2 two_three-family (◌<◌) (relation 6 (3 ∷ 0 ∷ []) (0 ∷ 2 ∷ []) ∷ []) six-canonical (λ n l. omega arith)
 
@@ -119,6 +124,7 @@ twice-spare h = let n = h 0 (omega arith) in n.5 (six-presents n.0 n.1 n.2 n.3 n
 
 -- ---- N: each number has one factorization
 
+-- no number has two classes
 pub naturals-canonical : IsCanonical (◌<◌) (IsFactorization (1 ∷ [])) []
 naturals-canonical = record {
   ordered = pairs-nil (λ r s. (r.value < s.value) ⊎ ((r.value ≡ s.value) × IsLexBelow s.right r.right));
@@ -140,6 +146,7 @@ naturals-canonical = record {
 abbrev G : ℕ → List ℕ → Type 0
 G = IsFactorization (6 ∷ 10 ∷ 15 ∷ [])
 
+-- 5·6 and 3·10
 pub thirty-second : IsCanonicalRelation (IsFactorization (6 ∷ 10 ∷ 15 ∷ [])) (relation 30 (5 ∷ 0 ∷ 0 ∷ []) (0 ∷ 3 ∷ 0 ∷ []))
 thirty-second = record {
   left = greatest-first (G 30) (5 ∷ 0 ∷ 0 ∷ []) ((0 ∷ 3 ∷ 0 ∷ []) ∷ (0 ∷ 0 ∷ 2 ∷ []) ∷ []) thirty;
@@ -147,6 +154,7 @@ thirty-second = record {
   apart = thirty-12;
 }
 
+-- 5·6 and 2·15
 pub thirty-third : IsCanonicalRelation (IsFactorization (6 ∷ 10 ∷ 15 ∷ [])) (relation 30 (5 ∷ 0 ∷ 0 ∷ []) (0 ∷ 0 ∷ 2 ∷ []))
 thirty-third = record {
   left = greatest-first (G 30) (5 ∷ 0 ∷ 0 ∷ []) ((0 ∷ 3 ∷ 0 ∷ []) ∷ (0 ∷ 0 ∷ 2 ∷ []) ∷ []) thirty;
@@ -154,5 +162,6 @@ thirty-third = record {
   apart = thirty-13;
 }
 
+-- 3·10 is not the greatest
 pub thirty-no_other : IsCanonicalRelation (IsFactorization (6 ∷ 10 ∷ 15 ∷ [])) (relation 30 (0 ∷ 3 ∷ 0 ∷ []) (0 ∷ 0 ∷ 2 ∷ [])) → ⊥
 thirty-no_other h = h.left.greatest (5 ∷ 0 ∷ 0 ∷ []) (record { places = refl; value = refl }) (inl (omega arith))

@@ -20,6 +20,7 @@ abbrev pub IsLowerable : List ℕ → ℕ → List ℕ → ℕ → Type 0
 IsLowerable G v z j = (0 < get_or z j 0) × (get_or G j 0 ≤ v) × IsMember G (v - get_or G j 0)
 
 module _ (G : List ℕ) (n : ℕ) where
+  -- whether a generator can be taken away is decided
   pub lowerable-decided : (v : ℕ) (z : List ℕ) (j : ℕ) → IsLowerable G v z j ⊎ ¬ IsLowerable G v z j
   lowerable-decided v z j = elim (cases_lt 0 (get_or z j 0)) [
     | inr none ↦ inr (λ h. omega (arith, h.0))
@@ -41,6 +42,7 @@ module _ (G : List ℕ) (n : ℕ) where
     ],
   )
 
+  -- where none can, the vector is minimal
   pub here-minimal : (z : List ℕ) (v : ℕ) → length z ≡ length G → IsMember G v → value_of G z ≡ n + v → ((j : ℕ) → j < length z → IsLowerable G v z j → ⊥) → IsMinimalAbove G n z
   here-minimal z v e member f none = record {
     places = e;
@@ -63,9 +65,11 @@ module _ (G : List ℕ) (n : ℕ) where
         (r.0, below-then r.0 (lower z j) z r.1 (lower-below z j h.0), r.2)
   ]
 
+  -- below a vector above n lies a minimal one
   pub minimal-below : (z : List ℕ) → IsAbove G n z → (y : List ℕ) × IsBelow y z × IsMinimalAbove G n y
   minimal-below z h = minimal-within (sum z) z h.1.0 (omega arith) h.0 h.1.1 h.1.2
 
+  -- a minimal vector is above n
   pub minimal-above : (z : List ℕ) → IsMinimalAbove G n z → IsAbove G n z
   minimal-above z m = (m.places, (m.rest, m.member, m.value))
 
@@ -124,12 +128,14 @@ module _ (G : List ℕ) (n : ℕ) where
         (y.0, y.1, h y.0 y.2, minimal-above y.0 y.2)),
   )
 
+  -- so the greatest length is the omega primality
   pub omega-from_greatest : (N : ℕ) → IsGreatestLength G n N → IsOmega G n N
   omega-from_greatest N g = record {
     serves = (serves-iff N).1 g.bound;
     least = λ N' less s. let l = (serves-iff N').0 s g.reached.0 g.reached.1 in omega (arith, g.reached.2);
   }
 
+  -- there is one omega primality at most
   pub one-omega : (M N : ℕ) → IsOmega G n M → IsOmega G n N → M ≡ N
   one-omega M N a b = elim (cases_lt M N) [
     | inl less ↦ absurd (b.least M less a.serves)

@@ -97,6 +97,7 @@ module _ (G : List ℕ) (positive : All (λ g. 1 ≤ g) G) (n : ℕ) where
               },
             )
 
+    -- so n has an omega primality
     pub omega-exists : (N : ℕ) × IsOmega G n N
     omega-exists = let g = greatest-exists in (g.0, omega-from_greatest G n g.0 g.1)
 
