@@ -81,5 +81,6 @@ from-special G s (x ∷ xs) h =
     let r = covers-exist G s c.0 c.2 in
     (r.0, record { special = x ∷ xs; is_special = h; chosen = c.0; is_chosen = c.1; covers = λ l. r.1; whole = λ e. absurd cc })
 
+-- there is a decomposition
 pub decomposition-exists : (G : List ℕ) → IsNumericalSemigroup G → (L : List (List ℕ)) × IsDecomposition G L
 decomposition-exists G s = let r = special_gaps-exist G s in from-special G s r.0 r.1

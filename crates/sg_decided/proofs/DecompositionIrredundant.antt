@@ -11,6 +11,7 @@ none-or_some : (xs : List ℤ) → (xs ≡ []) ⊎ (0 < length xs)
 none-or_some [] = inl refl
 none-or_some (x ∷ xs) = inr (omega arith)
 
+-- a decomposition is irredundant
 pub decomposition-irredundant : (G : List ℕ) (L : List (List ℕ)) → IsNumericalSemigroup G → IsDecomposition G L → IsIrredundant G L
 decomposition-irredundant G L s d =
     let f = frobenius-exists G s in

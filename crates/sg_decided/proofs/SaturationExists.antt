@@ -7,7 +7,7 @@ use Rattle.std.proofs.lemmas.Bool.{cases_lt}
 use Rattle.std.proofs.lemmas.Nat.Gcd.{le_of_dvd}
 use Rattle.sg_defs.specs.Membership.{IsMember, IsNumericalSemigroup, IsMinimal, Generates}
 use Rattle.sg_defs.specs.Closures.{IsSaturated, IsSaturatedClosure}
-use Rattle.sg_apery.proofs.GeneratorLemmas.{contains-place, place-contains}
+use Rattle.sg_classes.proofs.GeneratorLemmas.{contains-place, place-contains}
 use Rattle.sg_closure.specs.Saturation.{IsInSaturation}
 use Rattle.sg_closure.proofs.SaturatedLemmas.{saturation-sums, saturation-holds, saturation-saturated, saturation-least}
 use Rattle.sg_exist.specs.Decided.{Decided, IsNumericalSet}
@@ -84,15 +84,18 @@ same-closure G N H to from c = record {
   least = λ K semigroup kind above. c.least K semigroup kind (λ n p. above n (from n p));
 }
 
+-- lists with the same members are saturated together
 pub same-saturated : (G N : List ℕ) → ((n : ℕ) → IsMember G n → IsMember N n) → ((n : ℕ) → IsMember N n → IsMember G n) → IsSaturated N → IsSaturated G
 same-saturated G N to from kind n ss zs r p h l f = from (n + r) (kind n ss zs r (to n p) (λ i d k. let q = h i d k in (to (get_or ss i d) q.0, q.1)) l f)
 
+-- there is a saturated closure
 pub saturated_closure-exists : (G : List ℕ) → IsNumericalSemigroup G → (H : List ℕ) × IsSaturatedClosure G H
 saturated_closure-exists G s =
     let m = minimal_list-exists (IsMember G) (numerical-set G s) in
     let r = minimal_closure-exists m.0 m.1.semigroup m.1.minimal in
     (r.0, same-closure G m.0 r.0 (λ n p. (m.1.same n).0 p) (λ n p. (m.1.same n).1 p) r.1)
 
+-- whether it is saturated is decided: whether it is its own closure
 pub saturated-decided : (G : List ℕ) → IsNumericalSemigroup G → Decided (IsSaturated G)
 saturated-decided G s =
     let m = minimal_list-exists (IsMember G) (numerical-set G s) in

@@ -12,6 +12,7 @@ use Rattle.sg_exist.proofs.Decisions.{decided-or, decided-same, decided-eq}
 use Rattle.sg_defs.proofs.DecidedLemmas.{member-decided}
 use Rattle.sg_exist.proofs.InvariantsExist.{conductor-exists, genus-exists}
 
+-- symmetric
 pub symmetric-decided : (G : List ℕ) → IsNumericalSemigroup G → Decided (IsSymmetric G)
 symmetric-decided G s =
     let c = conductor-exists G s in
@@ -19,6 +20,7 @@ symmetric-decided G s =
     let t = symmetric-by_conductor G c.0 g.0 c.1 (member-decided G) g.1 in
     decided-same (2 * g.0 ≡ c.0) (IsSymmetric G) t.0 t.1 (decided-eq (2 * g.0) c.0)
 
+-- pseudo-symmetric
 pub pseudo_symmetric-decided : (G : List ℕ) → IsNumericalSemigroup G → Decided (IsPseudoSymmetric G)
 pseudo_symmetric-decided G s =
     let c = conductor-exists G s in
@@ -26,6 +28,7 @@ pseudo_symmetric-decided G s =
     let t = pseudo_symmetric-by_conductor G c.0 g.0 c.1 (member-decided G) g.1 in
     decided-same (2 * g.0 ≡ c.0 + 1) (IsPseudoSymmetric G) t.0 t.1 (decided-eq (2 * g.0) (c.0 + 1))
 
+-- irreducible
 pub irreducible-decided : (G : List ℕ) → IsNumericalSemigroup G → Decided (IsIrreducible G)
 irreducible-decided G s =
     let c = conductor-exists G s in

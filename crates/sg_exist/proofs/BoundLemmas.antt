@@ -9,7 +9,7 @@ use Rattle.std.proofs.lemmas.Nat.Gcd.{dvd_refl, dvd-zero, dvd_trans}
 use Rattle.std.proofs.Math.Nat.{dvd-sub_iff_left, eq-zero_of_zero-dvd, mod-add-div, mul-le-mul_left}
 use Rattle.sg_defs.specs.Membership.{IsMember, Generates, IsNumericalSemigroup}
 use Rattle.sg_defs.proofs.MembershipLemmas.{member-zero, member-add, member-entry, member-times}
-use Rattle.sg_apery.proofs.ExistsLemmas.{generates-exists}
+use Rattle.sg_classes.proofs.ExistsLemmas.{generates-exists}
 use Rattle.sg_defs.proofs.DecidedLemmas.{member-decided}
 use Rattle.sg_exist.specs.Decided.{IsNumericalSet}
 
@@ -89,10 +89,12 @@ members-from G s =
       | inr some ↦ (d.0 * d.0, above-square G d.0 (omega arith) d.1 d.2)
     ]
 
+-- the members of a numerical semigroup are a numerical set
 pub numerical-set : (G : List ℕ) → IsNumericalSemigroup G → IsNumericalSet (IsMember G)
 numerical-set G s =
     let r = members-from G s in
     record { decided = member-decided G; zero_in = member-zero G; sums = member-add G; from = r.0; all = r.1 }
 
+-- a numerical set has a minimal list
 pub minimal_list-exists : (P : ℕ → Type 0) → IsNumericalSet P → (M : List ℕ) × Generates P M
 minimal_list-exists P h = generates-exists P h.from (record { decided = h.decided; zero_in = h.zero_in; sums = h.sums; all = h.all })

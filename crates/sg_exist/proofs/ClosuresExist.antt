@@ -6,7 +6,7 @@ use Rattle.sg_defs.specs.Membership.{IsMember, IsNumericalSemigroup, IsMultiplic
 use Rattle.sg_defs.specs.Invariants.{IsGap}
 use Rattle.sg_defs.specs.Closures.{IsArf, IsMed, IsArfClosure, IsMedClosure}
 use Rattle.sg_defs.proofs.MembershipLemmas.{member-entry}
-use Rattle.sg_apery.proofs.GeneratorLemmas.{member-split}
+use Rattle.sg_classes.proofs.GeneratorLemmas.{member-split}
 use Rattle.sg_exist.specs.Decided.{Decided}
 use Rattle.sg_exist.proofs.Decisions.{decided-not, decided-and, decided-lt, decided-le, some-below}
 use Rattle.sg_defs.proofs.OneLemmas.{one-multiplicity}
@@ -53,12 +53,14 @@ arf-or_break K s =
       ])
     ]
 
+-- whether it is Arf is decided
 pub arf-decided : (K : List ℕ) → IsNumericalSemigroup K → Decided (IsArf K)
 arf-decided K s = elim (arf-or_break K s) [
   | inl arf ↦ inl arf
   | inr b ↦ inr (λ arf. b.3.out (arf b.0 b.1 b.2 b.3.second b.3.first b.3.greatest b.3.middle b.3.lesser))
 ]
 
+-- the Arf closure exists
 pub arf_closure-exists : (G : List ℕ) → IsNumericalSemigroup G → (H : List ℕ) × IsArfClosure G H
 arf_closure-exists G s = least-exists IsArf (λ K. Unit {0}) G s tt (λ K t h i. elim (arf-or_break K t) [
   | inl arf ↦ inl arf
@@ -118,6 +120,7 @@ med-or_break K m s mult =
       )
     ]
 
+-- whether the embedding dimension is maximal is decided
 pub med-decided : (K : List ℕ) → IsNumericalSemigroup K → Decided (IsMed K)
 med-decided K s =
     let m = multiplicity-exists K s in
@@ -139,6 +142,7 @@ more-multiplicity K m x s l mult = record { positive = mult.positive; member = m
     least : (n : ℕ) → 0 < n → IsMember (x ∷ K) n → m ≤ n
     least n q p = elim (member-split (x ∷ K) n p) [ inl e ↦ absurd (omega arith) | inr r ↦ let a = entry r.0 r.2 in omega (arith, a, r.4) ]
 
+-- the closure of maximal embedding dimension exists
 pub med_closure-exists : (G : List ℕ) → IsNumericalSemigroup G → (H : List ℕ) × IsMedClosure G H
 med_closure-exists G s =
     let m = multiplicity-exists G s in

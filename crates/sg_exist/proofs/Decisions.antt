@@ -8,20 +8,24 @@ use Rattle.std.proofs.lemmas.List.Elements.{All-nil, All-cons, All-head, All-tai
 use Rattle.std.proofs.lemmas.Nat.Gcd.{dvd_of_mod-eq-zero, mod-eq-zero_of_dvd}
 use Rattle.sg_exist.specs.Decided.{Decided}
 
+-- its contrary
 pub decided-not : (P : Type 0) → Decided P → Decided (¬ P)
 decided-not P (inl p) = inr (λ h. h p)
 decided-not P (inr n) = inl n
 
+-- both
 pub decided-and : (P Q : Type 0) → Decided P → Decided Q → Decided (P × Q)
 decided-and P Q (inl p) (inl q) = inl (p, q)
 decided-and P Q (inl p) (inr m) = inr (λ h. m h.1)
 decided-and P Q (inr n) q = inr (λ h. n h.0)
 
+-- one of two
 pub decided-or : (P Q : Type 0) → Decided P → Decided Q → Decided (P ⊎ Q)
 decided-or P Q (inl p) q = inl (inl p)
 decided-or P Q (inr n) (inl q) = inl (inr q)
 decided-or P Q (inr n) (inr m) = inr (λ h. elim h [ inl p ↦ n p | inr q ↦ m q ])
 
+-- one from the other
 pub decided-implies : (P Q : Type 0) → Decided P → Decided Q → Decided (P → Q)
 decided-implies P Q p (inl q) = inl (λ h. q)
 decided-implies P Q (inl p) (inr m) = inr (λ h. m (h p))
@@ -32,25 +36,32 @@ pub decided-same : (P Q : Type 0) → (P → Q) → (Q → P) → Decided P → 
 decided-same P Q to from (inl p) = inl (to p)
 decided-same P Q to from (inr n) = inr (λ q. n (from q))
 
+-- at most
 pub decided-le : (a b : ℕ) → Decided (a ≤ b)
 decided-le a b = elim (cases_lt b a) [ inl less ↦ inr (λ h. omega arith) | inr more ↦ inl more ]
 
+-- below
 pub decided-lt : (a b : ℕ) → Decided (a < b)
 decided-lt a b = elim (cases_lt a b) [ inl less ↦ inl less | inr more ↦ inr (λ h. omega arith) ]
 
+-- the same natural
 pub decided-eq : (a b : ℕ) → Decided (a ≡ b)
 decided-eq a b = cases_eq a b
 
+-- below, of integers
 pub decided-lt_z : (a b : ℤ) → Decided (a <ℤ b)
 decided-lt_z a b = by_lt_z {P = Decided (a <ℤ b)} a b (λ less. inl less) (λ more. inr (λ h. omega (arith, ints)))
 
+-- at most, of integers
 pub decided-le_z : (a b : ℤ) → Decided (a ≤ℤ b)
 decided-le_z a b = by_lt_z {P = Decided (a ≤ℤ b)} b a (λ less. inr (λ h. omega (arith, ints))) (λ more. inl more)
 
+-- the same integer
 pub decided-eq_z : (a b : ℤ) → Decided (a ≡ b)
 decided-eq_z a b = by_lt_z {P = Decided (a ≡ b)} a b (λ less. inr (λ h. omega (arith, ints))) (λ more.
     by_lt_z {P = Decided (a ≡ b)} b a (λ less. inr (λ h. omega (arith, ints))) (λ back. inl (omega (arith, ints))))
 
+-- whether a number divides another
 pub decided-divides : (d n : ℕ) → Decided (d ∣ n)
 decided-divides d n = elim (cases_eq (n % d) 0) [
   | inl e ↦ inl (dvd_of_mod-eq-zero d e)

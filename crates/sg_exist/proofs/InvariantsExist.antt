@@ -11,7 +11,7 @@ use Rattle.sg_defs.specs.Listings.{Lists, ListsIntegers}
 use Rattle.sg_defs.specs.Membership.{IsMember, IsIntegerMember, IsNumericalSemigroup, IsMultiplicity}
 use Rattle.sg_defs.specs.Invariants.{IsFrobenius, IsConductor, IsGap, IsGenus, AreSmallElements, IsPseudoFrobenius, IsSpecialGap, IsFundamentalGap, IsType}
 use Rattle.sg_defs.proofs.MembershipLemmas.{member-entry}
-use Rattle.sg_apery.proofs.GeneratorLemmas.{each-push}
+use Rattle.sg_classes.proofs.GeneratorLemmas.{each-push}
 use Rattle.sg_defs.proofs.DecidedLemmas.{member-decided}
 use Rattle.sg_invar.proofs.GapLemmas.{gap-below_conductor, fundamental-from_three}
 use Rattle.sg_invar.proofs.PseudoFrobeniusLemmas.{pseudo_frobenius-from_generators, pseudo_frobenius-generators, pseudo_frobenius-low, outside-below}
@@ -41,12 +41,15 @@ conductor-from G (suc c) all = elim (member-decided G c) [
     above (pos n) l = all n (omega (arith, ints, l))
     above (negsuc n) l = absurd (omega (arith, ints, l))
 
+-- there is a conductor
 pub conductor-exists : (G : List ℕ) → IsNumericalSemigroup G → (c : ℕ) × IsConductor G c
 conductor-exists G s = let r = members-from G s in conductor-from G r.0 r.1
 
+-- there is a Frobenius number
 pub frobenius-exists : (G : List ℕ) → IsNumericalSemigroup G → (f : ℤ) × IsFrobenius G f
 frobenius-exists G s = let r = conductor-exists G s in (pos r.0 -ℤ pos 1, r.1)
 
+-- there is a multiplicity
 pub multiplicity-exists : (G : List ℕ) → IsNumericalSemigroup G → (m : ℕ) × IsMultiplicity G m
 multiplicity-exists G s =
     let r = least-exists (λ n. (0 < n) × IsMember G n) (λ n. decided-and (0 < n) (IsMember G n) (decided-lt 0 n) (member-decided G n))
@@ -55,6 +58,7 @@ multiplicity-exists G s =
 
 -- ---- the conditions
 
+-- membership of integers is decided
 pub integer_member-decided : (G : List ℕ) (x : ℤ) → Decided (IsIntegerMember G x)
 integer_member-decided G (pos n) = member-decided G n
 integer_member-decided G (negsuc n) = inr (λ h. h)
@@ -94,19 +98,23 @@ fundamental_gap-decided G n = elim (member-decided G n) [
 
 -- ---- the lists
 
+-- the gaps are listed
 pub gaps-exist : (G : List ℕ) → IsNumericalSemigroup G → (l : List ℕ) × Lists (IsGap G) l
 gaps-exist G s = let c = conductor-exists G s in list-exists (IsGap G) (gap-decided G) c.0 (λ n gap. gap-below_conductor G c.0 n c.1 gap)
 
+-- the fundamental gaps are listed
 pub fundamental_gaps-exist : (G : List ℕ) → IsNumericalSemigroup G → (l : List ℕ) × Lists (IsFundamentalGap G) l
 fundamental_gaps-exist G s =
     let c = conductor-exists G s in list-exists (IsFundamentalGap G) (fundamental_gap-decided G) c.0 (λ n p. gap-below_conductor G c.0 n c.1 p.gap)
 
+-- the members up to the conductor are listed
 pub small_elements-exist : (G : List ℕ) → IsNumericalSemigroup G → (l : List ℕ) × AreSmallElements G l
 small_elements-exist G s =
     let c = conductor-exists G s in
     let r = list-exists (λ n. IsMember G n × (n ≤ c.0)) (λ n. decided-and (IsMember G n) (n ≤ c.0) (member-decided G n) (decided-le n c.0)) (c.0 + 1) (λ n p. omega (arith, p.1)) in
     (r.0, (c.0, c.1, r.1))
 
+-- there is a genus
 pub genus-exists : (G : List ℕ) → IsNumericalSemigroup G → (g : ℕ) × IsGenus G g
 genus-exists G s = let r = gaps-exist G s in (length r.0, (r.0, r.1, refl))
 
@@ -125,12 +133,15 @@ module _ (G : List ℕ) (s : IsNumericalSemigroup G) (P : ℤ → Type 0) (decid
       (λ x p. let l : negsuc 0 ≤ℤ x = pseudo_frobenius-low G (pos c.0 -ℤ pos 1) x c.1 low (part x p) in omega (arith, ints, l))
       (λ x p. let l : x ≤ℤ (pos c.0 -ℤ pos 1) = outside-below G (pos c.0 -ℤ pos 1) x c.1 (part x p).outside in omega (arith, ints, l))
 
+-- the pseudo-Frobenius numbers are listed
 pub pseudo_frobenius-exist : (G : List ℕ) → IsNumericalSemigroup G → (l : List ℤ) × ListsIntegers (IsPseudoFrobenius G) l
 pseudo_frobenius-exist G s = pseudo-list G s (IsPseudoFrobenius G) (pseudo_frobenius-decided G s) (λ x p. p)
 
+-- the special gaps are listed
 pub special_gaps-exist : (G : List ℕ) → IsNumericalSemigroup G → (l : List ℤ) × ListsIntegers (IsSpecialGap G) l
 special_gaps-exist G s = pseudo-list G s (IsSpecialGap G) (special_gap-decided G s) (λ x p. p.pseudo_frobenius)
 
+-- there is a type
 pub type-exists : (G : List ℕ) → IsNumericalSemigroup G → (n : ℕ) × IsType G n
 type-exists G s = let r = pseudo_frobenius-exist G s in (length r.0, (r.0, r.1, refl))
 
@@ -160,11 +171,13 @@ entries-exist G s n (suc k) l =
       λ i q. each-push (λ i w. IsAperyEntry G n i w) before.0 here.0 k before.1 before.2 here.1 i (omega arith),
     )
 
+-- there is an Apery list modulo each number
 pub apery-exists : (G : List ℕ) → IsNumericalSemigroup G → (n : ℕ) → (t : List ℕ) × IsApery G n t
 apery-exists G s n =
     let r = entries-exist G s n n (omega arith) in
     (r.0, record { entries = r.1; member = λ i l. (r.2 i l).member; residue = λ i l. (r.2 i l).residue; least = λ i y l. (r.2 i l).least y })
 
+-- so each invariant is there
 pub invariants-exist : (G : List ℕ) → IsNumericalSemigroup G → HasInvariants G
 invariants-exist G s = record {
   minimal = minimal_list-exists (IsMember G) (numerical-set G s);

@@ -9,7 +9,7 @@ use Rattle.sg_defs.specs.Membership.{IsMember, IsNumericalSemigroup, Holds}
 use Rattle.sg_defs.specs.Invariants.{IsGap}
 use Rattle.sg_defs.specs.Closures.{IsLeast}
 use Rattle.sg_defs.proofs.MembershipLemmas.{member-zero, member-entry}
-use Rattle.sg_apery.proofs.GeneratorLemmas.{holds-from_entries}
+use Rattle.sg_classes.proofs.GeneratorLemmas.{holds-from_entries}
 use Rattle.sg_defs.proofs.DecidedLemmas.{member-decided}
 use Rattle.sg_exist.proofs.BoundLemmas.{members-from}
 
@@ -28,6 +28,7 @@ more-semigroup K x s l = record {
   coprime = λ d all. s.coprime d (All-tail (λ g. d ∣ g) x K all);
 }
 
+-- the old members are members
 pub more-holds : (K : List ℕ) (x : ℕ) → Holds (x ∷ K) K
 more-holds K x = holds-from_entries (x ∷ K) K (λ k l. member-entry (x ∷ K) (suc k) (omega arith))
 
@@ -106,6 +107,7 @@ module _ (P I : List ℕ → Type 0) (G : List ℕ) (c : ℕ) (all : (n : ℕ) �
         (λ L t q above. more-held K L x (least L t q above) (w.1.wanted L t q (least L t q above))) (omega (arith, fewer, l))
   ]
 
+-- where semigroups without the kind lack a number that all of the kind above have, there is a least one of the kind
 pub least-exists : (P I : List ℕ → Type 0) (G : List ℕ) → IsNumericalSemigroup G → I G →
     ((K : List ℕ) → IsNumericalSemigroup K → Holds K G → I K → P K ⊎ ((x : ℕ) × IsWanting P I K x)) → (H : List ℕ) × IsLeast P G H
 least-exists P I G s i step =

@@ -19,6 +19,7 @@ below-exists P decided (suc b) =
       | inr not ↦ (before.0, subst (λ n. ListsBelow P n before.0) e (lists-skip P b before.0 not before.1))
     ]
 
+-- a decided set of naturals below a bound is listed
 pub list-exists : (P : ℕ → Type 0) → ((n : ℕ) → Decided (P n)) → (b : ℕ) → ((x : ℕ) → P x → x < b) → (l : List ℕ) × Lists P l
 list-exists P decided b below = let r = below-exists P decided b in (r.0, lists-all P b r.0 below r.1)
 
@@ -57,6 +58,7 @@ module _ (P : ℤ → Type 0) (k : ℕ) (low : (x : ℤ) → P x → pos 0 ≤�
     exactly = λ x. ((to x), (λ p. raised x (x +ℤ pos k) p (let e : x ≡ (x +ℤ pos k) -ℤ pos k = omega (arith, ints) in e) (low x p)));
   }
 
+-- a decided set of integers between two bounds is listed
 pub integers-exist : (P : ℤ → Type 0) → ((x : ℤ) → Decided (P x)) → (k b : ℕ) → ((x : ℤ) → P x → pos 0 ≤ℤ (x +ℤ pos k)) → ((x : ℤ) → P x → (x +ℤ pos k) <ℤ pos b) →
     (l : List ℤ) × ListsIntegers P l
 integers-exist P decided k b low high =

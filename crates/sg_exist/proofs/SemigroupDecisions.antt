@@ -5,9 +5,9 @@ use Rattle.std.specs.Int.{◌∣◌}
 use Rattle.std.specs.List.Sorted.{IsStrictlyIncreasing}
 use Rattle.std.proofs.lemmas.Nat.Gcd.{le_of_dvd}
 use Rattle.sg_defs.specs.Membership.{IsMember, Generates, IsNumericalSemigroup, IsMinimal}
-use Rattle.sg_apery.specs.Fit.{IsFit}
-use Rattle.sg_apery.specs.Limits.{GENERATOR_LIMIT, MULTIPLICITY_LIMIT}
-use Rattle.sg_apery.proofs.OneListLemmas.{one-minimal_list}
+use Rattle.sg_classes.specs.Fit.{IsFit}
+use Rattle.sg_classes.specs.declared.limits.TheConstants.{GENERATOR_LIMIT, MULTIPLICITY_LIMIT}
+use Rattle.sg_classes.proofs.OneListLemmas.{one-minimal_list}
 use Rattle.sg_defs.proofs.DecidedLemmas.{member-decided}
 use Rattle.sg_exist.specs.Decided.{Decided}
 use Rattle.sg_exist.proofs.Decisions.{decided-not, decided-implies, decided-same, decided-le, decided-lt, decided-divides, decided-all, each-below}
@@ -23,6 +23,7 @@ coprime-decided G long positive = decided-same
     (λ d. decided-implies (All (λ g. d ∣ g) G) (d ≤ 1) (decided-all (λ g. d ∣ g) (λ g. decided-divides d g) G) (decided-le d 1))
     (suc (get_or G 0 0)))
 
+-- whether a list generates a numerical semigroup is decided
 pub semigroup-decided : (G : List ℕ) → Decided (IsNumericalSemigroup G)
 semigroup-decided G = elim (decided-lt 0 (length G)) [
   | inr not ↦ inr (λ s. not s.not_empty)
@@ -55,6 +56,7 @@ minimal-decided M = elim (increasing-decided M) [
       ]
 ]
 
+-- whether it is within the limits
 pub fit-decided : (M : List ℕ) → Decided (IsFit M)
 fit-decided M = elim (decided-le (get_or M 0 0) MULTIPLICITY_LIMIT) [
   | inr not ↦ inr (λ f. not f.multiplicity)
@@ -71,5 +73,6 @@ fit_list-or_none P h = elim (fit-decided h.0) [
   | inr not ↦ inr (λ G g fit. not (subst IsFit (one-minimal_list P G h.0 g h.1) fit))
 ]
 
+-- whether the minimal list of a set is past them
 pub unfit-decided : (P : ℕ → Type 0) → (M : List ℕ) × Generates P M → Decided ((G : List ℕ) → Generates P G → ¬ IsFit G)
 unfit-decided P h = elim (fit_list-or_none P h) [ inl m ↦ inr (λ none. none m.0 m.1 m.2) | inr none ↦ inl none ]

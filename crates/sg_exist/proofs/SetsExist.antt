@@ -9,10 +9,11 @@ use Rattle.std.proofs.lemmas.Nat.Gcd.{le_of_dvd}
 use Rattle.std.proofs.Math.Nat.{mul-le-mul_left}
 use Rattle.sg_defs.specs.Membership.{IsMember, Generates, IsNumericalSemigroup}
 use Rattle.sg_defs.proofs.MembershipLemmas.{member-zero, member-add}
-use Rattle.sg_apery.specs.Classes.{IsAboveEntry, IsClassList, IsKunz}
-use Rattle.sg_apery.specs.Conditions.{IsInBoth, IsInQuotient, IsInSmall, IsNotClosed, IsClosedSet, AreSmallAccepted, IsOutside}
-use Rattle.sg_apery.proofs.KunzLemmas.{residue-sum}
-use Rattle.sg_apery.proofs.GeneratorLemmas.{contains-place, place-contains}
+use Rattle.sg_classes.specs.Classes.{IsAboveEntry, IsClassList, IsKunz}
+use Rattle.sg_apery.specs.Conditions.{IsInBoth, IsInQuotient, AreSmallAccepted}
+use Rattle.sg_small.specs.Sets.{IsInSmall, IsNotClosed, IsClosedSet, IsOutside}
+use Rattle.sg_classes.proofs.ResidueLemmas.{residue-sum}
+use Rattle.sg_classes.proofs.GeneratorLemmas.{contains-place, place-contains}
 use Rattle.sg_exist.specs.Decided.{Decided, IsNumericalSet}
 use Rattle.sg_exist.specs.Sets.{AreSetsGenerated}
 use Rattle.sg_exist.proofs.Decisions.{decided-not, decided-and, decided-or, decided-same, decided-le, decided-lt, decided-eq, decided-divides, each-below, some-below}
@@ -50,6 +51,7 @@ module _ (P : ℕ → Type 0) (decided : (n : ℕ) → Decided (P n)) (c : ℕ) 
     ])
   ]
 
+  -- a closed set with 0 is a numerical set
   pub closed-set : P 0 → IsClosedSet P → IsNumericalSet P
   closed-set zero_in closed = record { decided = decided; zero_in = zero_in; sums = closed; from = c; all = all }
 
@@ -65,6 +67,7 @@ module _ (P : ℕ → Type 0) (decided : (n : ℕ) → Decided (P n)) (c : ℕ) 
 
 -- ---- two semigroups, and a quotient
 
+-- so is an intersection
 pub both-set : (G H : List ℕ) → IsNumericalSemigroup G → IsNumericalSemigroup H → IsNumericalSet (IsInBoth G H)
 both-set G H s t =
     let a = members-from G s in
@@ -77,6 +80,7 @@ both-set G H s t =
       all = λ n l. (a.1 n (omega arith), b.1 n (omega arith));
     }
 
+-- so is a quotient
 pub quotient-set : (G : List ℕ) (d : ℕ) → IsNumericalSemigroup G → 0 < d → IsNumericalSet (IsInQuotient G d)
 quotient-set G d s positive =
     let a = members-from G s in
@@ -151,6 +155,7 @@ classes-decided t = elim (decided-lt 0 (length t)) [
   ]
 ]
 
+-- whether a list is an Apery list is decided
 pub kunz-decided : (t : List ℕ) → Decided (IsKunz t)
 kunz-decided t = elim (classes-decided t) [
   | inr not ↦ inr (λ h. not h.classes)
@@ -199,6 +204,7 @@ modular-set a b c positive factor = record {
         remainder-low : (n d : ℕ) → n % d ≤ n
         remainder-low n d = omega arith
 
+-- the sets of the constructors have minimal lists
 pub sets-generated : AreSetsGenerated
 sets-generated = record {
   intersection = λ G H s t. minimal_list-exists (IsInBoth G H) (both-set G H s t);

@@ -4,7 +4,7 @@ use Rattle.std.specs.Prelude.{pos, ◌-ℤ◌}
 use Rattle.std.proofs.lemmas.Int.{ints}
 use Rattle.sg_defs.specs.Membership.{IsNumericalSemigroup}
 use Rattle.sg_defs.proofs.OneLemmas.{one-frobenius}
-use Rattle.sg_apery.specs.Fit.{IsSpan}
+use Rattle.sg_classes.specs.Fit.{IsSpan}
 use Rattle.sg_exist.specs.Decided.{Decided}
 use Rattle.sg_exist.proofs.Decisions.{decided-same, decided-lt}
 use Rattle.sg_exist.proofs.InvariantsExist.{conductor-exists}
@@ -20,6 +20,7 @@ span-exists G s =
 pub span-one : (G : List ℕ) (s t : ℕ) → IsSpan G s → IsSpan G t → s ≡ t
 span-one G s t h k = let e = one-frobenius G h.0 k.0 h.1 k.1 in let a = h.2 in let b = k.2 in omega (arith, ints, a, b, e)
 
+-- whether it passes a limit is decided
 pub wide-decided : (G : List ℕ) → IsNumericalSemigroup G → (limit : ℕ) → Decided ((s : ℕ) × IsSpan G s × (limit < s))
 wide-decided G s limit =
     let r = span-exists G s in

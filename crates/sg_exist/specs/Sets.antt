@@ -1,8 +1,9 @@
 -- The sets of the constructors.
 use Rattle.std.specs.Prelude.{ℕ, ◌<◌, ◌≤◌, ◌*◌, ◌%◌, List}
 use Rattle.sg_defs.specs.Membership.{IsNumericalSemigroup, Generates}
-use Rattle.sg_apery.specs.Classes.{IsAboveEntry, IsKunz}
-use Rattle.sg_apery.specs.Conditions.{IsInBoth, IsInQuotient, IsInSmall, IsOutside, AreSmallAccepted}
+use Rattle.sg_classes.specs.Classes.{IsAboveEntry, IsKunz}
+use Rattle.sg_apery.specs.Conditions.{IsInBoth, IsInQuotient, AreSmallAccepted}
+use Rattle.sg_small.specs.Sets.{IsInSmall, IsOutside}
 use Rattle.sg_exist.specs.Decided.{Decided}
 
 -- the naturals with P are a numerical semigroup

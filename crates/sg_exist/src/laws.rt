@@ -2,7 +2,7 @@
 
 ghost use Rattle.std.specs.Prelude.{ℕ, List};
 ghost use Rattle.sg_defs.specs.Membership.{IsMember, IsNumericalSemigroup, Generates};
-ghost use Rattle.sg_apery.specs.Fit.{IsFit};
+ghost use Rattle.sg_classes.specs.Fit.{IsFit};
 ghost use Rattle.sg_defs.specs.Closures.{IsArf, IsMed, IsArfClosure, IsMedClosure};
 ghost use Rattle.sg_exist.specs.Decided.{Decided};
 ghost use Rattle.sg_exist.specs.Invariants.{HasInvariants};

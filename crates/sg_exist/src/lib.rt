@@ -1,4 +1,4 @@
-//! What exists and what is decided, of numerical semigroups: each is a law, the contract of a function without
+//! Laws of what exists and what is decided, of numerical semigroups: each is the contract of a function without
 //! parameters and without a body, proved from the definitions alone.
 //!
 //! The logic has no excluded middle, so that an invariant exists only where one is found, and a condition is decided

@@ -20,5 +20,6 @@ some-entry P decided xs = decided-same ((k : ℕ) × (k < length xs) × P (get_o
     (λ h. let k = integer-place xs h.0 h.1 in (k.0, k.1, subst P (sym k.2) h.2))
     (some-below (λ k. P (get_or xs k (pos 0))) (λ k. decided (get_or xs k (pos 0))) (length xs))
 
+-- membership of an ideal is decided
 pub ideal_member-decided : (G : List ℕ) (I : List ℤ) (x : ℤ) → Decided (IsIdealMember G I x)
 ideal_member-decided G I x = some-entry (λ g. IsIntegerMember G (x -ℤ g)) (λ g. integer_member-decided G (x -ℤ g)) I

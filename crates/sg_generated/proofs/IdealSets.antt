@@ -48,6 +48,7 @@ ideal-add G I x s m q =
     let e = n.1 in
     (m.0, m.1, natural-at (IsMember G) ((x +ℤ pos s) -ℤ m.0) (n.0 + s) (omega (arith, ints, e)) (member-add G n.0 s n.2 q))
 
+-- what integers generate is the set of an ideal
 pub generated-set : (G : List ℕ) (zs : List ℤ) → 0 < length zs → IsIdealSet G (IsIdealMember G zs)
 generated-set G zs long = record {
   decided = ideal_member-decided G zs;
@@ -82,6 +83,7 @@ module _ (G : List ℕ) (P Q : ℤ → Type 0) (p : IsIdealSet G P) (q : IsIdeal
       let g : m.1 ≡ x -ℤ (p.bound +ℤ pos n) = omega (arith, ints, e, f) in
       (n, omega (arith, ints, a, b, e, f), (subst P f m.2, subst Q g m.3))
 
+  -- so is a sum
   pub sum-set : IsIdealSet G (IsInSum P Q)
   sum-set = record {
     decided = λ x. decided-same ((n : ℕ) × (n < nat_abs ((x -ℤ p.bound) -ℤ q.bound) + 1) × IsSplit x n) (IsInSum P Q x) (λ h. split-sum x h.0 h.2) (sum-split x)
@@ -93,6 +95,7 @@ module _ (G : List ℕ) (P Q : ℤ → Type 0) (p : IsIdealSet G P) (q : IsIdeal
     closed = λ x s m k. let e = m.4 in (m.0, m.1 +ℤ pos s, m.2, q.closed m.1 s m.3 k, omega (arith, ints, e));
   }
 
+  -- so is an intersection
   pub both-set : IsNumericalSemigroup G → IsIdealSet G (IsInBoth P Q)
   both-set num =
       let a = all-from G num P p in
@@ -119,6 +122,7 @@ module _ (G : List ℕ) (P : ℤ → Type 0) (J : List ℤ) (p : IsIdealSet G P)
       let g : (x +ℤ get_or J k.0 (pos 0)) +ℤ pos n.0 ≡ x +ℤ y = omega (arith, ints, e, f) in
       subst P g (p.closed (x +ℤ get_or J k.0 (pos 0)) n.0 (each k.0 k.1) n.2)
 
+  -- so is a difference
   pub difference-set : IsNumericalSemigroup G → 0 < length J → IsIdealSet G (IsInDifference P (IsIdealMember G J))
   difference-set num long =
       let a = all-from G num P p in
@@ -143,11 +147,13 @@ module _ (G : List ℕ) (P : ℤ → Type 0) (p : IsIdealSet G P) where
     (λ m. let f = m.3 in let g = m.4 in let same : m.0 ≡ x = omega (arith, ints, f, g) in subst P same m.2),
   )
 
+  -- so are the sums of k members
   pub multiple-set : (k : ℕ) → 0 < k → IsIdealSet G (IsInMultiple k P)
   multiple-set zero l = absurd (omega arith)
   multiple-set (suc zero) l = same-set G P (IsInMultiple 1 P) one-summand p
   multiple-set (suc (suc k)) l = sum-set G P (IsInMultiple (suc k) P) p (multiple-set (suc k) (omega arith))
 
+  -- so is a translate
   pub translate-set : (a : ℤ) → IsIdealSet G (IsInTranslate a P)
   translate-set a = record {
     decided = λ x. p.decided (x -ℤ a);

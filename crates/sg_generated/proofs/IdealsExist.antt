@@ -7,7 +7,7 @@ use Rattle.sg_defs.specs.Listings.{ListsIntegers}
 use Rattle.sg_defs.specs.Membership.{IsMember, IsIntegerMember, IsNumericalSemigroup}
 use Rattle.sg_defs.specs.Ideals.{IsIdealMember}
 use Rattle.sg_defs.proofs.MembershipLemmas.{member-zero, member-add, member-entry}
-use Rattle.sg_apery.proofs.GeneratorLemmas.{member-split}
+use Rattle.sg_classes.proofs.GeneratorLemmas.{member-split}
 use Rattle.sg_ideal.specs.Value.{GeneratesIdeal}
 use Rattle.sg_ideal.proofs.FromLemmas.{at-natural, natural-at}
 use Rattle.sg_exist.specs.Decided.{Decided}
@@ -112,5 +112,6 @@ module _ (G : List ℕ) (num : IsNumericalSemigroup G) (P : ℤ → Type 0) (h :
       same = λ x. ((λ p. set-member x p), (λ m. member-set x m));
     }
 
+-- the set of an ideal has a minimal list
 pub ideal-exists : (G : List ℕ) → IsNumericalSemigroup G → (P : ℤ → Type 0) → IsIdealSet G P → (I : List ℤ) × GeneratesIdeal G P I
 ideal-exists G num P h = let r = firsts-exist G num P h in (r.0, firsts-generate G num P h r.0 r.1)

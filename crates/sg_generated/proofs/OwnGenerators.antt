@@ -59,6 +59,7 @@ module _ (G : List ℕ) (f : ℤ) (frobenius : IsFrobenius G f) where
           | inr none ↦ let e : m.0 ≡ x = omega (arith, ints, d, none) in subst (Contains I) e m.1
         ]
 
+    -- so these are the minimal generators
     pub canonical-generators : (x : ℤ) → Contains I x ↔ IsPseudoFrobenius G (f -ℤ x)
     canonical-generators x = (pseudo-from x, pseudo-to x)
 

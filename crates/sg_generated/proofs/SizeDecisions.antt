@@ -11,6 +11,7 @@ use Rattle.sg_exist.proofs.Decisions.{decided-and, decided-same, decided-lt_z, e
 use Rattle.sg_generated.proofs.IdealDecisions.{integer-place}
 use Rattle.sg_generated.proofs.OneIdeal.{one-minimal_ideal}
 
+-- whether all are within the limit is decided
 pub small-decided : (zs : List ℤ) → Decided (AreSmall zs)
 small-decided zs = decided-same ((k : ℕ) → k < length zs → IsSmall (get_or zs k (pos 0))) (AreSmall zs)
     (λ h x c. let k = integer-place zs x c in subst IsSmall k.2 (h k.0 k.1))
@@ -37,5 +38,6 @@ module _ (G : List ℕ) (P : ℤ → Type 0) where
   pub small-or_large : (I : List ℤ) × GeneratesIdeal G P I → ((I : List ℤ) × GeneratesIdeal G P I × AreSmall I) ⊎ ((I : List ℤ) → GeneratesIdeal G P I → ¬ AreSmall I)
   small-or_large h = elim (small-decided h.0) [ inl small ↦ inl (h.0, h.1, small) | inr not ↦ inr (large-each h.0 h.1 not) ]
 
+  -- whether the minimal generators of a set are not
   pub large-decided : (I : List ℤ) × GeneratesIdeal G P I → Decided ((I : List ℤ) → GeneratesIdeal G P I → ¬ AreSmall I)
   large-decided h = elim (small-or_large h) [ inl m ↦ inr (λ none. none m.0 m.1 m.2) | inr none ↦ inl none ]

@@ -1,5 +1,6 @@
-//! What exists and what is decided, of relative ideals of a numerical semigroup: each is a law, the contract of a
-//! function without parameters and without a body, proved from the definitions alone.
+//! Laws of relative ideals of a numerical semigroup: what exists, what is decided, and which generators the canonical and
+//! the maximal ideal have. Each is the contract of a function without parameters and without a body, proved from the
+//! definitions alone.
 //!
 //! The logic has no excluded middle, so that a minimal list exists only where it is found. A set of integers that is
 //! decided, bounded below and closed under adding members, and that has some integer, has one: of its integers those

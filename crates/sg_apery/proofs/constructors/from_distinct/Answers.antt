@@ -1,6 +1,7 @@
 use Rattle.std.proofs.Common.{◌≡◌, ◌∙◌, sym, inr, arith, rules, refl, length, vec_len}
 use Rattle.sg_defs.proofs.MembershipLemmas.{member-entry}
-use Rattle.sg_classes.proofs.EntryLemmas.{first-least, table-same, table-apery}
+use Rattle.sg_classes.proofs.EntryLemmas.{table-same, table-apery}
+use Rattle.sg_defs.proofs.MinimalLemmas.{first-least}
 use Rattle.sg_apery.proofs.constructors.from_distinct.Goals as goal
 
 pub returns-then-multiplicity-gt-MULTIPLICITY_LIMIT-clause-refused : goal.returns-then-multiplicity-gt-MULTIPLICITY_LIMIT-clause-refused
