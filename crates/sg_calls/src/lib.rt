@@ -23,7 +23,7 @@ mod shape_facts;
 
 pub use calls::answer;
 pub use command::check_call;
-pub use operations::{combine, negate};
+pub use operations::{calculate, combine, negate};
 pub use operator::Operator;
 pub use sg_rows::{CallFault, Fault};
 

@@ -30,7 +30,8 @@ fn remainder(x: i64, y: i64) -> Result<Value, CallFault>
 }
 
 /// What the operator gives of two integers.
-fn calculate(op: Operator, x: i64, y: i64) -> Result<Value, CallFault>
+#[inline(always)]
+pub fn calculate(op: Operator, x: i64, y: i64) -> Result<Value, CallFault>
     ensures { (store : Known) → Replies result store (calculation op x y) }
 {
     match op {

@@ -15,21 +15,23 @@ use Rattle.sg_calls.specs.Commands.{checked}
 use Rattle.sg_rows.specs.declared.fault.Fault.{Fault}
 use Rattle.sg_rows.specs.declared.fault.CallFault.{CallFault}
 use Rattle.sg_rows.specs.declared.fault.CallFault.TheVariants.{Script}
-use Rattle.sg_eval.specs.Queries.{calls}
+use Rattle.sg_meaning.specs.Queries.{calls}
 use Rattle.sg_tree.specs.Tree.{call, Argument, Arguments, argument, no_arguments, plain as plain_argument, arrow}
 use Rattle.sg_tree.specs.TreeView.{argument_of, arguments_of}
 use Rattle.sg_tree.specs.declared.expr.Arg.{Arg}
-use Rattle.sg_eval.specs.declared.folding.Folding.{Folding}
-use Rattle.sg_eval.specs.Expressions.{eval, eval_given, eval_folding, folding_named, called, argument_count, unless, plain_alone, ask}
+use Rattle.sg_meaning.specs.declared.folding.Folding.{Folding}
+use Rattle.sg_meaning.specs.Expressions.{eval, eval_given, eval_folding, folding_named, called, argument_count, unless, plain_alone, ask}
 use Rattle.sg_eval.specs.Given.{plain_if, known_if, plain_where, known_where, eval_argument, IsWith}
 use Rattle.sg_eval.specs.Outcomes.{Evaluates}
-use Rattle.sg_eval.specs.Process.{Process, gives, refuses, ◌>>=◌}
+use Rattle.sg_meaning.specs.Process.{Process, gives, refuses, ◌>>=◌}
 use Rattle.sg_eval.specs.State.{State}
-use Rattle.sg_eval.specs.Vars.{Vars}
-use Rattle.sg_eval.proofs.Deciding.{assoc}
+use Rattle.sg_meaning.specs.Vars.{Vars}
+use Rattle.sg_meaning.proofs.Sequels.{assoc, right_unit}
 use Rattle.sg_eval.proofs.Evaluating.{evaluates_then, evaluates_exit, evaluates_as, all_known_later, keeps_all}
-use Rattle.sg_eval.proofs.Steps.{join-one, join-none, right_unit, all_known_more, plain_of_all-more}
+use Rattle.sg_value.proofs.Joins.{join-none, join-one}
+use Rattle.sg_eval.proofs.Steps.{all_known_more, plain_of_all-more}
 
+-- the arguments from one on
 pub arguments_of-drop : (gs : List Arg) (i : ℕ) (g : Arg) → i < length gs → g ≡ get_or gs i g → arguments_of (drop i gs) ≡ argument (argument_of g) (arguments_of (drop (i + 1) gs))
 arguments_of-drop gs i g within is = ap arguments_of (drop_more gs i g within) ∙ ap (λ x. argument (argument_of x) (arguments_of (drop (i + 1) gs))) (sym is)
 
@@ -89,16 +91,19 @@ pub given_over : (ps : Vars) (o : Option (Items Things)) → gives o ≡ after_g
 given_over ps None = refl
 given_over ps (Some es) = ap (λ ds. gives (Some ds)) (sym (join-none es))
 
+-- one value more is known
 pub known_with : (names : Named) (o : Option (Vec Value Global)) (f : Option Value) (p : Option (Vec Value Global)) → IsWith o f p → known_where names o → known_if names f → known_where names p
 known_with names None f p is all is_known = subst (known_where names) (sym is) tt
 known_with names (Some vs) None p is all is_known = subst (known_where names) (sym is) tt
 known_with names (Some vs) (Some v) None is all is_known = tt
 known_with names (Some vs) (Some v) (Some ws) is all is_known = all_known_more names vs.items ws.items v is all is_known
 
+-- values that may be missing stay known
 pub known_where_later : (a b : Known) (o : Option (Vec Value Global)) → Keeps a b → known_where (named a) o → known_where (named b) o
 known_where_later a b None kept all = tt
 known_where_later a b (Some vs) kept all = all_known_later a b vs.items kept all
 
+-- one value more is counted
 pub count_with : (o : Option (Vec Value Global)) (f : Option Value) (p : Option (Vec Value Global)) (n : ℕ) → IsWith o f p → MatchOption o ⊤ (λ ws. length ws.items ≡ n) → MatchOption p ⊤ (λ ws. length ws.items ≡ n + 1)
 count_with None f p n is h = subst (λ q. MatchOption q ⊤ (λ ws. length ws.items ≡ n + 1)) (sym is) tt
 count_with (Some vs) None p n is h = subst (λ q. MatchOption q ⊤ (λ ws. length ws.items ≡ n + 1)) (sym is) tt
@@ -106,6 +111,7 @@ count_with (Some vs) (Some v) None n is h = tt
 count_with (Some vs) (Some v) (Some ws) n is h = ap length is ∙ (length-append vs.items (v ∷ []) ∙ ap (λ k. k + 1) h)
 
 module _ (ps : Vars) (s s1 : State) (a : Argument) (others : Arguments) (o : Option (Vec Value Global)) (same : s.parameters ≡ ps) where
+  -- the value of one argument, and then the others
   pub given_then : (f : Option Value) (p : Option (Vec Value Global)) (r : Result (Option (Vec Value Global)) CallFault) (s2 : State) → IsWith o f p → Evaluates plain_if known_if (Ok f) s s1 (λ names. eval_argument s.parameters a)
       → Evaluates plain_where known_where r s1 s2 (λ names. after_given ps others (plain_where names p)) → Evaluates plain_where known_where r s s2 (λ names. after_given ps (argument a others) (plain_where names o))
   given_then f p r s2 is h g =
@@ -116,6 +122,7 @@ module _ (ps : Vars) (s s1 : State) (a : Argument) (others : Arguments) (o : Opt
       (evaluates_as plain_where known_where r s1 s2 (λ names. after_given ps others (plain_where names p)) (λ names. after_given ps others (with_where (plain_where names o) (plain_if names f)))
       (λ names. ap (after_given ps others) (plain_with names o f p is)) g))
 
+  -- an argument that is refused
   pub given_exit : (r : Result (Option (Vec Value Global)) CallFault) (e : CallFault) → IsErrAnd r (λ y. y ≡ e) → Evaluates plain_if known_if (Err e) s s1 (λ names. eval_argument s.parameters a)
       → Evaluates plain_where known_where r s s1 (λ names. after_given ps (argument a others) (plain_where names o))
   given_exit r e failed h =
@@ -132,6 +139,7 @@ call_right env name gs alone right =
     ap (λ o. unless o (eval_given env (arguments_of gs) >>= (λ values. plain_alone values (λ ds. ask (calls name ds))))) (sym (ap (checked name) (count-arguments gs) ∙ right))
     ∙ ap (λ o. called o name (argument_count (arguments_of gs)) (eval_given env (arguments_of gs)) (eval_folding env (arguments_of gs))) (sym alone)
 
+-- a call that is refused for its name or its count
 pub call_wrong : (env : Vars) (name : List ℕ) (gs : List Arg) (e : Fault) → folding_named name ≡ None → checked name (length gs) ≡ Some e → refuses e ≡ eval env (call name (arguments_of gs))
 call_wrong env name gs e alone wrong =
     ap (λ o. unless o (eval_given env (arguments_of gs) >>= (λ values. plain_alone values (λ ds. ask (calls name ds))))) (sym (ap (checked name) (count-arguments gs) ∙ wrong))

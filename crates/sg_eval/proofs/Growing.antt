@@ -22,19 +22,19 @@ use Rattle.sg_calls.specs.Commands.{checked, command_named}
 use Rattle.sg_tree.specs.Tree.{Tree, Arguments, argument, call, variable, plain as plain_argument}
 use Rattle.sg_tree.specs.TreeView.{arguments_of}
 use Rattle.sg_tree.specs.declared.expr.Arg.{Arg}
-use Rattle.sg_eval.specs.Expressions.{looked_up, known, eval, eval_given, plain_alone, unless, argument_count, called, eval_folding, ask}
+use Rattle.sg_meaning.specs.Expressions.{looked_up, known, eval, eval_given, plain_alone, unless, argument_count, called, eval_folding, ask}
 use Rattle.sg_eval.specs.Given.{plain_where, known_where}
 use Rattle.sg_eval.specs.Growth.{onto, joined_onto, Grows}
 use Rattle.sg_eval.specs.Outcomes.{Evaluates}
-use Rattle.sg_eval.specs.Process.{Process, gives, ◌>>=◌, Runs}
-use Rattle.sg_eval.specs.Queries.{calls}
+use Rattle.sg_meaning.specs.Process.{Process, gives, ◌>>=◌, Runs}
+use Rattle.sg_meaning.specs.Queries.{calls}
 use Rattle.sg_eval.specs.State.{State, values_of, AreKnownIn}
-use Rattle.sg_eval.specs.Vars.{Vars, with_value}
+use Rattle.sg_meaning.specs.Vars.{Vars, with_value}
 use Rattle.sg_eval.proofs.Borrowed.{entry_only}
-use Rattle.sg_eval.proofs.Deciding.{assoc}
+use Rattle.sg_meaning.proofs.Sequels.{assoc}
 use Rattle.sg_eval.proofs.Evaluating.{evaluates_as, evaluates_then, evaluates_reply, keeps_all}
 use Rattle.sg_eval.proofs.Later.{call_answered, variable_found, copy_known}
-use Rattle.sg_eval.proofs.Named.{Entries, is_named, values-set, values-kept, known-set, lookup-some, lookup-none, lookup-known}
+use Rattle.sg_eval.proofs.Named.{Pairs, is_named, values-set, values-kept, known-set, lookup-some, lookup-none, lookup-known}
 
 -- Concatenation takes one argument and more
 pub concatenation_right : (n : ℕ) → checked (codes "Concatenation") (suc n) ≡ None
@@ -74,7 +74,7 @@ onto_reply s x u v lists r none found is_known reply =
     (λ final later t g. call_answered s.names final (u ∷ lists) (codes "Concatenation") t later is_known (concatenation_right (length lists)) (subst (λ c. IsReply c t) (sym (concatenation_row (plain_of_all (named s.names) (u ∷ lists)))) g)) reply)
 
 -- a list grew in the place of its variable
-pub grown_there : (s : State) (x : List ℕ) (es fs : Entries) (u v : Value) (lists : List Value) (r : Result (Unit {0}) CallFault) → s.parameters ≡ [] → s.variables ≡ values_of s.names es → AreKnownIn s.names es → AllKnownIn (named s.names) lists
+pub grown_there : (s : State) (x : List ℕ) (es fs : Pairs) (u v : Value) (lists : List Value) (r : Result (Unit {0}) CallFault) → s.parameters ≡ [] → s.variables ≡ values_of s.names es → AreKnownIn s.names es → AllKnownIn (named s.names) lists
     → Some u ≡ lookup (is_named x) es → fs ≡ set_value (is_named x) es v → ((store : Known) → AllKnownIn (named store) (u ∷ lists) → Replies (left_in v r) store (concatenation_of (plain_of_all (named store) (u ∷ lists)))) → OnErr r (contents v ≡ contents u)
     → Grows r s (values_of s.names fs) x (λ names. joined_onto x (plain_of_all names lists))
 grown_there s x es fs u v lists (Ok done) none vars all known_lists found is reply same =
@@ -90,7 +90,7 @@ grown_there s x es fs u v lists (Err e) none vars all known_lists found is reply
     (onto_reply s x u v lists (Err e) none there known (reply s.names known), ap (values_of s.names) is ∙ (values-kept s.names x es u v found same ∙ sym vars))
 
 -- there is no such variable
-pub grown_nowhere : (s : State) (x : List ℕ) (es fs : Entries) (lists : List Value) → s.variables ≡ values_of s.names es → None ≡ lookup (is_named x) es → fs ≡ es
+pub grown_nowhere : (s : State) (x : List ℕ) (es fs : Pairs) (lists : List Value) → s.variables ≡ values_of s.names es → None ≡ lookup (is_named x) es → fs ≡ es
     → Grows (Err (Script UnknownName)) s (values_of s.names fs) x (λ names. joined_onto x (plain_of_all names lists))
 grown_nowhere s x es fs lists vars missing is = (
   record {
@@ -104,7 +104,7 @@ grown_nowhere s x es fs lists vars missing is = (
 )
 
 -- the values are known as before
-pub known_there : (names : Known) (x : List ℕ) (es fs : Entries) (u v : Value) (lists : List Value) (r : Result (Unit {0}) CallFault) → Some u ≡ lookup (is_named x) es → fs ≡ set_value (is_named x) es v
+pub known_there : (names : Known) (x : List ℕ) (es fs : Pairs) (u v : Value) (lists : List Value) (r : Result (Unit {0}) CallFault) → Some u ≡ lookup (is_named x) es → fs ≡ set_value (is_named x) es v
     → ((store : Known) → AllKnownIn (named store) (u ∷ lists) → Replies (left_in v r) store (concatenation_of (plain_of_all (named store) (u ∷ lists)))) → OnErr r (contents v ≡ contents u) → AreKnownIn names es → AllKnownIn (named names) lists → AreKnownIn names fs
 known_there names x es fs u v lists (Ok done) found is reply same all known_lists =
     subst (AreKnownIn names) (sym is) (known-set names x es v all (reply names (lookup-known names x es u found all, known_lists)).1)

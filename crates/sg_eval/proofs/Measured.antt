@@ -17,6 +17,7 @@ use Rattle.sg_rows.proofs.Measures.{depth_of_all-map, weight_of_all-map, replies
 abbrev pub row_of : Known → List Value → Row
 row_of names vs = answers (λ d. d ≡ list (plain_of_all (named names) vs))
 
+-- what is asked of that list
 abbrev pub listing : Known → List Value → Case
 listing names vs = fits (row_of names vs)
 
@@ -28,17 +29,20 @@ module _ (names : Known) (vs : List Value) (ds : Entries) (is : ds ≡ contents_
   same_weight : weight_of_all (plain_of_all (named names) vs) ≡ weight_of_all ds
   same_weight = weight_of_all-map (thing_at (named names)) (contents_of_all vs) ∙ ap weight_of_all (sym is)
 
+  -- it nests too deep
   pub too_deep : (n : ℕ) → n ≡ min (depth_of (list ds)) (2 ^ 64 - 1) → 64 < n → Replies (Err (Script Depth)) names (listing names vs)
   too_deep n is_n deep =
       let e = same_depth in
       replies_deep names (row_of names vs) (plain_of_all (named names) vs) (answers_pass (λ d. d ≡ list (plain_of_all (named names) vs))) refl (omega (arith, e, is_n, deep))
 
+  -- it is too heavy
   pub too_heavy : (n k : ℕ) → n ≡ min (depth_of (list ds)) (2 ^ 64 - 1) → n ≤ 64 → k ≡ min (weight_of (list ds)) (2 ^ 64 - 1) → 4194304 < k → Replies (Err (Script TooLarge)) names (listing names vs)
   too_heavy n k is_n shallow is_k heavy =
       let e = same_depth in
       let w = same_weight in
       replies_heavy names (row_of names vs) (plain_of_all (named names) vs) (answers_pass (λ d. d ≡ list (plain_of_all (named names) vs))) refl (omega (arith, e, is_n, shallow)) (omega (arith, w, is_k, heavy))
 
+  -- it is within the limits
   pub within_limits : (n k : ℕ) → n ≡ min (depth_of (list ds)) (2 ^ 64 - 1) → n ≤ 64 → k ≡ min (weight_of (list ds)) (2 ^ 64 - 1) → k ≤ 4194304 → AllKnownIn (named names) vs → Replies (Ok (value.List ds)) names (listing names vs)
   within_limits n k is_n shallow is_k light is_known =
       let e = same_depth in

@@ -7,12 +7,12 @@ use Rattle.sg_value.specs.declared.value.Value.{Value}
 use Rattle.sg_rows.specs.declared.fault.CallFault.{CallFault}
 use Rattle.sg_rows.specs.Order.{Plain}
 use Rattle.sg_tree.specs.Tree.{Tree, Arguments, call, argument, variable, plain as plain_argument}
-use Rattle.sg_eval.specs.Expressions.{looked_up, ask}
+use Rattle.sg_meaning.specs.Expressions.{looked_up, ask}
 use Rattle.sg_eval.specs.Outcomes.{Evaluates}
-use Rattle.sg_eval.specs.Process.{Process, ◌>>=◌}
-use Rattle.sg_eval.specs.Queries.{calls}
+use Rattle.sg_meaning.specs.Process.{Process, ◌>>=◌}
+use Rattle.sg_meaning.specs.Queries.{calls}
 use Rattle.sg_eval.specs.State.{State}
-use Rattle.sg_eval.specs.Vars.{Vars, with_value}
+use Rattle.sg_meaning.specs.Vars.{Vars, with_value}
 
 -- a call of Concatenation whose first argument is a name
 abbrev pub onto : List ℕ → Arguments → Tree

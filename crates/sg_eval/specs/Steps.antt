@@ -13,11 +13,11 @@ use Rattle.sg_eval.specs.declared.step_fault.Flow.{Flow}
 use Rattle.sg_eval.specs.declared.step_fault.Flow.TheVariants.{On, Quit}
 use Rattle.sg_eval.specs.declared.step_fault.StepFault.{StepFault}
 use Rattle.sg_eval.specs.declared.step_fault.StepFault.TheVariants.{Script, Write, Memory}
-use Rattle.sg_eval.specs.Expressions.{eval, eval_given, decided, listed}
-use Rattle.sg_eval.specs.Process.{Process, gives, ◌>>=◌, Runs, Breaks}
+use Rattle.sg_meaning.specs.Expressions.{eval, eval_given, decided, listed}
+use Rattle.sg_meaning.specs.Process.{Process, gives, ◌>>=◌, Runs, Breaks}
 use Rattle.sg_eval.specs.State.{State}
-use Rattle.sg_eval.specs.Statements.{on, ended, whole, exec_all, printed}
-use Rattle.sg_eval.specs.Vars.{Vars}
+use Rattle.sg_meaning.specs.Statements.{on, ended, whole, exec_all, printed}
+use Rattle.sg_meaning.specs.Vars.{Vars}
 
 -- a step over a statement: it ended, with these variables and this text, or it was left at some point
 abbrev pub Executes : Result Flow StepFault → Code → Vars → Vars → List ℕ → Type 0

@@ -7,17 +7,17 @@ ghost use Rattle.sg_io.specs.Faults.{AppendsFront, HasCauseAt};
 ghost use Rattle.sg_value.specs.Plain.{AllKnown, AllKnownIn, plain, plain_of_all};
 ghost use Rattle.sg_tree.specs.TreeView.{tree_of, code_of, block_of, arms_of, arguments_of};
 ghost use Rattle.sg_tree.specs.Tree.{assign as assigning};
-ghost use Rattle.sg_eval.specs.Process.{sets};
-ghost use Rattle.sg_eval.specs.Statements.{exec as meaning, exec_all as meaning_of_all, done, over};
+ghost use Rattle.sg_meaning.specs.Process.{sets};
+ghost use Rattle.sg_meaning.specs.Statements.{exec as meaning, exec_all as meaning_of_all, done, over};
 ghost use Rattle.sg_eval.specs.Steps.{Executed, arm_done, held, listed_of, print_done, printed_arguments, IsOutside, IsInside};
 ghost use Rattle.sg_eval.specs.Outcomes.{Evaluates};
-ghost use Rattle.sg_eval.specs.Queries.{integers_from};
-ghost use Rattle.sg_eval.specs.Ranges.{IsRow, entries_in, are_known};
+ghost use Rattle.sg_meaning.specs.Entries.{integers_from};
+ghost use Rattle.sg_eval.specs.Ranges.{IsRange, entries_in, are_known};
 ghost use Rattle.sg_eval.specs.Truths.{itself, no_semigroup};
 ghost use Rattle.sg_eval.specs.Machine.{state_of};
 
 use crate::answers::{decide, entries, range};
-use crate::entries::{Entries, Range};
+use crate::sequence::{Range, Sequence};
 use crate::eval::{eval, given};
 use crate::growth::{grow, others_onto};
 use crate::integers::integer;
@@ -55,8 +55,8 @@ pub fn exec<W: Sink>(
         }
         Stmt::For(name, e, body) => {
             match list_of(alloc, machine, e)? {
-                Entries::Listed(list) => repeat(alloc, machine, body, name, list.as_slice(), out),
-                Entries::Counted(range) => count_up(alloc, machine, body, name, range, out),
+                Sequence::Listed(list) => repeat(alloc, machine, body, name, list.as_slice(), out),
+                Sequence::Counted(range) => count_up(alloc, machine, body, name, range, out),
             }
         }
         Stmt::Do(e) => perform(alloc, machine, e, out),
@@ -138,7 +138,7 @@ fn count_up<W: Sink>(
     out: &mut W,
 ) -> Result<(), StepFault>
     requires parameters { (state_of machine.old).parameters ≡ [] }
-    requires range { IsRow range }
+    requires range { IsRange range }
     ensures done { Executed result (state_of machine.old) (state_of machine.new) (W.taken out.old) (W.taken out.new) (over (λ e. sets name.now e (meaning_of_all (block_of body.now))) (integers_from range.first range.count)) }
     ensures cause { HasCauseAt StepFault.Write (W.faults out.old) (W.faults out.new) result }
     ensures sure { W.sure out.new ≡ W.sure out.old }
@@ -177,7 +177,7 @@ fn holds(alloc: Global, machine: &mut Machine, test: &Expr) -> Result<bool, Call
 }
 
 /// The entries of a list.
-fn list_of(alloc: Global, machine: &mut Machine, e: &Expr) -> Result<Entries, CallFault>
+fn list_of(alloc: Global, machine: &mut Machine, e: &Expr) -> Result<Sequence, CallFault>
     ensures { Evaluates entries_in are_known result (state_of machine.old) (state_of machine.new) (λ names. listed_of (state_of machine.old).parameters (tree_of e.now)) }
 {
     if let Expr::Span(low, high) = e {
@@ -186,7 +186,7 @@ fn list_of(alloc: Global, machine: &mut Machine, e: &Expr) -> Result<Entries, Ca
         return range(&a, &b);
     }
     let value = eval(alloc, machine, e)?;
-    Ok(Entries::Listed(entries(value)?))
+    Ok(Sequence::Listed(entries(value)?))
 }
 
 /// The arguments of a call of `Print`.

@@ -11,10 +11,10 @@ ghost use Rattle.std.specs.Str.{bytes_eq};
 ghost use Rattle.sg_value.specs.Plain.{AllKnown, AllKnownIn, contents, plain, plain_of_all};
 ghost use Rattle.sg_value.specs.Data.{int};
 ghost use Rattle.sg_eval.specs.State.{State, vars_of, values_of, AreKnown, AreKnownIn};
-ghost use Rattle.sg_eval.specs.Expressions.{looked_up};
+ghost use Rattle.sg_meaning.specs.Expressions.{looked_up};
 ghost use Rattle.sg_eval.specs.Outcomes.{Evaluates, plain_of, known_of};
 ghost use Rattle.sg_eval.specs.Growth.{Grows, joined_onto};
-ghost use Rattle.sg_eval.specs.Vars.{with_value};
+ghost use Rattle.sg_meaning.specs.Vars.{with_value};
 
 use crate::variable::{Variable, find};
 use indexmap::IndexMap;

@@ -10,10 +10,10 @@ use Rattle.sg_tree.specs.Tree.{Code}
 use Rattle.sg_script.specs.Outcome.{a_tree, IsReadAs}
 use Rattle.sg_script.proofs.OutcomeLemmas.{one-outcome}
 use Rattle.sg_rows.specs.declared.fault.Fault.{Fault}
-use Rattle.sg_eval.specs.Process.{Process, gives, refuses, reads, asks, sets, writes, Runs, Breaks}
-use Rattle.sg_eval.specs.Vars.{Vars, value_at, with_value}
-use Rattle.sg_eval.specs.Statements.{Going, on, ended, whole as meaning}
-use Rattle.sg_eval.proofs.OneEnd.{answer_one, end_one}
+use Rattle.sg_meaning.specs.Process.{Process, gives, refuses, reads, asks, sets, writes, Runs, Breaks}
+use Rattle.sg_meaning.specs.Vars.{Vars, value_at, with_value}
+use Rattle.sg_meaning.specs.Statements.{Going, on, ended, whole as meaning}
+use Rattle.sg_meaning.proofs.OneEnd.{answer_one, end_one}
 use Rattle.sg_play.specs.Record.{Mark, Played, Record, marked, out, done, refused, IsFrontOf}
 use Rattle.sg_play.specs.Play.{Turn, stops, goes, executed, Performs, Takes, PlaysFrom, last, next}
 use Rattle.sg_play.specs.Left.{IsFirstStatement, LeftFrom, before, inside, behind}

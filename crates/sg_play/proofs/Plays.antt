@@ -7,7 +7,7 @@ use Rattle.sg_cut.specs.Lines.{count_of_line_feeds, line_of}
 use Rattle.sg_cut.specs.declared.outcome.Piece.{Piece}
 use Rattle.sg_cut.specs.declared.outcome.Piece.TheVariants.{Statement, TooLong, Unfinished, End, Waiting}
 use Rattle.sg_cut.proofs.Outcomes.{outcome_found, same_outcome, statement-append, too_long-append, text-append, rest-append}
-use Rattle.sg_eval.specs.Vars.{Vars}
+use Rattle.sg_meaning.specs.Vars.{Vars}
 use Rattle.sg_rows.specs.declared.fault.Fault.TheVariants as fault
 use Rattle.sg_play.specs.Record.{Played, refused, waiting, marked, out, after_text, IsFrontOf}
 use Rattle.sg_play.specs.Play.{Turn, stops, goes, ends_at, Takes, PlaysFrom, last, next}

@@ -10,10 +10,10 @@ use Rattle.sg_rows.specs.declared.fault.Fault.{Fault}
 use Rattle.sg_rows.specs.declared.fault.Fault.TheVariants as fault
 use Rattle.sg_script.specs.Outcome.{Outcome, a_tree, too_deep, no_statement}
 use Rattle.sg_script.proofs.SomeOutcome.{some-outcome}
-use Rattle.sg_eval.specs.Vars.{Vars}
-use Rattle.sg_eval.specs.Lawful.{AreLawfulVars}
-use Rattle.sg_eval.specs.Statements.{Going, on, ended}
-use Rattle.sg_eval.proofs.LawfulStatements.{statement_some}
+use Rattle.sg_meaning.specs.Vars.{Vars}
+use Rattle.sg_meaning.specs.Lawful.{AreLawfulVars}
+use Rattle.sg_meaning.specs.Statements.{Going, on, ended}
+use Rattle.sg_meaning.proofs.LawfulStatements.{statement_some}
 use Rattle.sg_play.specs.Record.{Played, done, refused, waiting, after_text}
 use Rattle.sg_play.specs.Play.{Turn, stops, goes, ends_at, ends_between, executed, Performs, Takes, PlaysFrom, last, next}
 

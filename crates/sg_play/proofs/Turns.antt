@@ -8,9 +8,9 @@ use Rattle.sg_rows.specs.declared.fault.Fault.{Fault}
 use Rattle.sg_rows.specs.declared.fault.Fault.TheVariants as fault
 use Rattle.sg_script.specs.Outcome.{Outcome, a_tree, too_deep, no_statement, IsReadAs}
 use Rattle.sg_script.proofs.OutcomeLemmas.{one-outcome}
-use Rattle.sg_eval.specs.Vars.{Vars}
-use Rattle.sg_eval.specs.Statements.{Going, on, ended, whole as meaning}
-use Rattle.sg_eval.proofs.OneEnd.{end_one}
+use Rattle.sg_meaning.specs.Vars.{Vars}
+use Rattle.sg_meaning.specs.Statements.{Going, on, ended, whole as meaning}
+use Rattle.sg_meaning.proofs.OneEnd.{end_one}
 use Rattle.sg_play.specs.Record.{Played, Ending, done, refused, waiting, marked, out}
 use Rattle.sg_play.specs.Play.{Turn, stops, ends_at, executed, Performs, Takes}
 

@@ -3,9 +3,9 @@ use Rattle.std.specs.Prelude.{ℕ, List, [], ◌++◌, drop, slice_range, Ok}
 use Rattle.sg_cut.specs.Cut.{StandsAt}
 use Rattle.sg_tree.specs.Tree.{Code}
 use Rattle.sg_script.specs.Outcome.{a_tree, IsReadAs}
-use Rattle.sg_eval.specs.Vars.{Vars}
-use Rattle.sg_eval.specs.Process.{Runs, Breaks}
-use Rattle.sg_eval.specs.Statements.{on, whole as meaning}
+use Rattle.sg_meaning.specs.Vars.{Vars}
+use Rattle.sg_meaning.specs.Process.{Runs, Breaks}
+use Rattle.sg_meaning.specs.Statements.{on, whole as meaning}
 
 -- the first statement of the bytes, from `begin` up to `end`, has this tree
 pub record IsFirstStatement (bytes : List ℕ) (begin end : ℕ) (c : Code) : Type 0 where

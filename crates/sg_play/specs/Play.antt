@@ -7,9 +7,9 @@ use Rattle.sg_cut.specs.declared.outcome.Piece.TheVariants.{Statement, TooLong, 
 use Rattle.sg_rows.specs.declared.fault.Fault.{Fault}
 use Rattle.sg_rows.specs.declared.fault.Fault.TheVariants as fault
 use Rattle.sg_script.specs.Outcome.{Outcome, a_tree, too_deep, no_statement, IsReadAs}
-use Rattle.sg_eval.specs.Vars.{Vars}
-use Rattle.sg_eval.specs.Process.{Runs}
-use Rattle.sg_eval.specs.Statements.{Going, on, ended, whole as meaning}
+use Rattle.sg_meaning.specs.Vars.{Vars}
+use Rattle.sg_meaning.specs.Process.{Runs}
+use Rattle.sg_meaning.specs.Statements.{Going, on, ended, whole as meaning}
 use Rattle.sg_play.specs.Record.{out, marked, Ending, done, refused, waiting, Played, after_text}
 
 -- one turn of a play: it ends here, or a statement was executed and the play goes on

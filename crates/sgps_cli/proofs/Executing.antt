@@ -8,9 +8,9 @@ use Rattle.sg_rows.specs.declared.fault.Fault.{Fault}
 use Rattle.sg_rows.specs.declared.fault.Fault.TheVariants as script
 use Rattle.sg_tree.specs.Tree.{Code}
 use Rattle.sg_script.specs.Outcome.{a_tree, IsReadAs}
-use Rattle.sg_eval.specs.Vars.{Vars}
-use Rattle.sg_eval.specs.Process.{Breaks}
-use Rattle.sg_eval.specs.Statements.{ended, whole as meaning}
+use Rattle.sg_meaning.specs.Vars.{Vars}
+use Rattle.sg_meaning.specs.Process.{Breaks}
+use Rattle.sg_meaning.specs.Statements.{ended, whole as meaning}
 use Rattle.sg_eval.specs.declared.step_fault.Flow.{Flow}
 use Rattle.sg_eval.specs.declared.step_fault.Flow.TheVariants as flow
 use Rattle.sg_eval.specs.declared.step_fault.StepFault.{StepFault}

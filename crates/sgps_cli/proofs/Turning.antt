@@ -8,9 +8,9 @@ use Rattle.sg_cut.specs.declared.limits.TheConstants.{SCRIPT_LIMIT}
 use Rattle.sg_cut.specs.Lines.{count_of_line_feeds}
 use Rattle.sg_tree.specs.Tree.{Code}
 use Rattle.sg_script.specs.Outcome.{a_tree}
-use Rattle.sg_eval.specs.Vars.{Vars}
-use Rattle.sg_eval.specs.Process.{Runs}
-use Rattle.sg_eval.specs.Statements.{on, whole as meaning}
+use Rattle.sg_meaning.specs.Vars.{Vars}
+use Rattle.sg_meaning.specs.Process.{Runs}
+use Rattle.sg_meaning.specs.Statements.{on, whole as meaning}
 use Rattle.sg_play.specs.Record.{Played, Record, marked, out, after_text}
 use Rattle.sg_play.specs.Play.{PlaysFrom, Play, next}
 use Rattle.sg_play.specs.Left.{IsFirstStatement, LeftFrom, IsLeft, behind}

@@ -2,9 +2,9 @@
 use Rattle.std.specs.Prelude.{◌≡◌, ℕ, ◌⊎◌, Bool, List, [], Result, Ok, Err}
 use Rattle.sg_tree.specs.Tree.{Code}
 use Rattle.sg_script.specs.Outcome.{Outcome, a_tree, IsReadAs}
-use Rattle.sg_eval.specs.Vars.{Vars}
-use Rattle.sg_eval.specs.Process.{Runs, Breaks}
-use Rattle.sg_eval.specs.Statements.{on, ended, whole as meaning}
+use Rattle.sg_meaning.specs.Vars.{Vars}
+use Rattle.sg_meaning.specs.Process.{Runs, Breaks}
+use Rattle.sg_meaning.specs.Statements.{on, ended, whole as meaning}
 use Rattle.sg_eval.specs.declared.step_fault.Flow.{Flow}
 use Rattle.sg_eval.specs.declared.step_fault.Flow.TheVariants as flow
 use Rattle.sg_eval.specs.declared.step_fault.StepFault.{StepFault}

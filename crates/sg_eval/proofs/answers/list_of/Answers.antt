@@ -10,10 +10,10 @@ use Rattle.sg_rows.specs.Replies.{Replies}
 use Rattle.sg_rows.specs.declared.fault.CallFault.{CallFault}
 use Rattle.sg_rows.specs.declared.fault.CallFault.TheVariants.{Script}
 use Rattle.sg_rows.specs.declared.fault.Fault.TheVariants.{Depth, TooLarge}
-use Rattle.sg_eval.specs.Expressions.{ask}
+use Rattle.sg_meaning.specs.Expressions.{ask}
 use Rattle.sg_eval.specs.Outcomes.{Evaluates}
 use Rattle.sg_eval.specs.State.{State}
-use Rattle.sg_eval.specs.Queries.{lists}
+use Rattle.sg_meaning.specs.Queries.{lists}
 use Rattle.sg_eval.proofs.Evaluating.{evaluates_reply, keeps_all, plain_of_all_later}
 use Rattle.sg_eval.proofs.Measured.{listing, too_deep, too_heavy, within_limits}
 use Rattle.sg_eval.proofs.answers.list_of.Goals as goal

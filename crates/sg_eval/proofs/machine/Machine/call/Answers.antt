@@ -5,7 +5,7 @@ use Rattle.sg_calls.specs.Commands.{command_named}
 use Rattle.sg_eval.specs.Machine.{state_of}
 use Rattle.sg_eval.specs.State.{vars_of, values_of}
 use Rattle.sg_eval.proofs.Named.{known_in_later, values_later}
-use Rattle.sg_eval.specs.Queries.{calls}
+use Rattle.sg_meaning.specs.Queries.{calls}
 use Rattle.sg_eval.proofs.Evaluating.{evaluates_reply, keeps_then}
 use Rattle.sg_eval.proofs.Later.{are_known_later, vars_later, call_answered}
 use Rattle.sg_eval.proofs.machine.Machine.call.Goals as goal

@@ -2,9 +2,9 @@
 use Rattle.std.specs.Prelude.{ℕ, List, [], ◌∷◌, Result, IfOk, ⊤}
 use Rattle.sg_rows.specs.Lawful.{IsLawful, AreLawful}
 use Rattle.sg_rows.specs.declared.fault.Fault.{Fault}
-use Rattle.sg_eval.specs.Process.{Process, Runs}
-use Rattle.sg_eval.specs.Queries.{Query, calls, combines, negates, lists, spans, indexes}
-use Rattle.sg_eval.specs.Vars.{Vars}
+use Rattle.sg_meaning.specs.Process.{Process, Runs}
+use Rattle.sg_meaning.specs.Queries.{Query, calls, combines, negates, lists, spans, indexes}
+use Rattle.sg_meaning.specs.Vars.{Vars}
 
 -- the value of each variable is lawful
 abbrev pub AreLawfulVars : Vars → Type 0

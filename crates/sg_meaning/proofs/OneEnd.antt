@@ -7,10 +7,12 @@ use Rattle.sg_rows.specs.Kinds.{answers, as_integer, given}
 use Rattle.sg_rows.specs.declared.fault.Fault.{Fault}
 use Rattle.sg_rows.proofs.OneValue.{reply_one, given_one, is_one}
 use Rattle.sg_calls.proofs.OneReply.{operators_one, sign_one, commands_one}
-use Rattle.sg_eval.specs.Queries.{Query, calls, combines, negates, lists, spans, indexes, IsAnswer, span_of, integers_from, span_count}
-use Rattle.sg_eval.specs.Process.{Process, gives, refuses, reads, asks, sets, writes, Runs}
-use Rattle.sg_eval.specs.Vars.{Vars, value_at, with_value}
+use Rattle.sg_meaning.specs.Entries.{integers_from}
+use Rattle.sg_meaning.specs.Queries.{Query, calls, combines, negates, lists, spans, indexes, IsAnswer, span_of, span_count}
+use Rattle.sg_meaning.specs.Process.{Process, gives, refuses, reads, asks, sets, writes, Runs}
+use Rattle.sg_meaning.specs.Vars.{Vars, value_at, with_value}
 
+-- a query has at most one answer
 pub answer_one : (q : Query) (r s : Reply) → IsAnswer q r → IsAnswer q s → r ≡ s
 answer_one (calls name args) r s h k = commands_one name args r s h k
 answer_one (combines op a b) r s h k = operators_one op a b r s h k
@@ -22,6 +24,7 @@ answer_one (spans a b) r s h k =
     (λ x. given_one (as_integer b) (λ y. fits (answers (λ d. d ≡ list (integers_from x (span_count (y -ℤ x)))))) (λ y. is_one _))) r s h k
 answer_one (indexes a i) r s h k = h ∙ sym k
 
+-- a process has at most one end
 pub end_one : {A : Type 0} (p : Process A) (vars : Vars) (end end' : Result A Fault) (vars' vars'' : Vars) (bs bs' : List ℕ)
     → Runs p vars end vars' bs → Runs p vars end' vars'' bs' → (end ≡ end') × (vars' ≡ vars'') × (bs ≡ bs')
 end_one (gives a) vars end end' vars' vars'' bs bs' h k = (h.0 ∙ sym k.0, h.1 ∙ sym k.1, h.2 ∙ sym k.2)

@@ -16,14 +16,14 @@ use Rattle.sg_rows.specs.Words.{entry_count}
 use Rattle.sg_rows.specs.Lawful.{IsLawful, AreLawful, IsLawfulReply}
 use Rattle.sg_rows.proofs.SomeValue.{as_list_lawful}
 use Rattle.sg_calls.specs.Commands.{checked}
-use Rattle.sg_eval.specs.Queries.{Query, calls, combines, negates, lists, spans, indexes}
-use Rattle.sg_eval.specs.Process.{Process, gives, refuses, ◌>>=◌}
-use Rattle.sg_eval.specs.Vars.{Vars}
-use Rattle.sg_eval.specs.Lawful.{AreLawfulVars, IsLawfulQuery}
-use Rattle.sg_eval.specs.declared.folding.Folding.{Folding}
-use Rattle.sg_eval.specs.declared.folding.Folding.TheVariants.{EachValue, ThoseTrue, AllTrue, AnyTrue, CountTrue}
-use Rattle.sg_eval.specs.Expressions.{known, looked_up, replied, ask, decided, listed, negated, turned, relation, unless, plain_alone, argument_count, folding_named, called, values_over, true_over, is_each, folded, eval, eval_all, eval_places, eval_links, eval_given, eval_folding}
-use Rattle.sg_eval.proofs.SomeEnd.{StaysLawful, then_lawful, value_at_lawful}
+use Rattle.sg_meaning.specs.Queries.{Query, calls, combines, negates, lists, spans, indexes}
+use Rattle.sg_meaning.specs.Process.{Process, gives, refuses, ◌>>=◌}
+use Rattle.sg_meaning.specs.Vars.{Vars}
+use Rattle.sg_meaning.specs.Lawful.{AreLawfulVars, IsLawfulQuery}
+use Rattle.sg_meaning.specs.declared.folding.Folding.{Folding}
+use Rattle.sg_meaning.specs.declared.folding.Folding.TheVariants.{EachValue, ThoseTrue, AllTrue, AnyTrue, CountTrue}
+use Rattle.sg_meaning.specs.Expressions.{known, looked_up, replied, ask, decided, listed, negated, turned, relation, unless, plain_alone, argument_count, folding_named, called, values_over, true_over, is_each, folded, eval, eval_all, eval_places, eval_links, eval_given, eval_folding}
+use Rattle.sg_meaning.proofs.SomeEnd.{StaysLawful, then_lawful, value_at_lawful}
 
 known_lawful : (o : Option Plain) → IfSome o IsLawful → StaysLawful IsLawful (known o)
 known_lawful None h = tt
@@ -40,6 +40,7 @@ replied_lawful (Err e) h = tt
 ask_lawful : (q : Query) → IsLawfulQuery q → StaysLawful IsLawful (ask q)
 ask_lawful q h = (h, replied_lawful)
 
+-- what comes of a value as a truth value
 pub decided_lawful : {A : Type 0} (M : A → Type 0) (d : Plain) (f : Bool → Process A) → ((b : Bool) → StaysLawful M (f b)) → StaysLawful M (decided d f)
 decided_lawful M (a_truth b) f h = h b
 decided_lawful M (int z) f h = tt
@@ -49,11 +50,13 @@ decided_lawful M fail f h = tt
 decided_lawful M (semigroup G) f h = tt
 decided_lawful M (ideal G) f h = tt
 
+-- what comes of a value as a list
 pub listed_lawful : {A : Type 0} (M : A → Type 0) (o : Option (Items Things)) (f : Items Things → Process A) → IfSome o AreLawful →
     ((ds : Items Things) → AreLawful ds → StaysLawful M (f ds)) → StaysLawful M (listed o f)
 listed_lawful M None f l h = tt
 listed_lawful M (Some ds) f l h = h ds l
 
+-- what comes of either branch
 pub if_lawful : {A : Type 0} (M : A → Type 0) (b : Bool) (p q : Process A) → StaysLawful M p → StaysLawful M q → StaysLawful M (if b then p else q)
 if_lawful M true p q h k = h
 if_lawful M false p q h k = k
@@ -120,6 +123,7 @@ module _ (f : Plain → Process Plain) (each : (d : Plain) → IsLawful d → St
 -- ---- expressions
 
 mutual
+  -- expressions give lawful values
   pub eval_lawful : (env : Vars) (t : Tree) → AreLawfulVars env → StaysLawful IsLawful (eval env t)
   eval_lawful env (number z) h = tt
   eval_lawful env (quoted bs) h = tt
@@ -166,6 +170,7 @@ mutual
   eval_links_lawful env d (link Mod t ls) h k = then_lawful IsLawful IsLawful (eval env t) (λ e. ask (combines operator.Mod d e) >>= (λ s. eval_links env s ls)) (eval_lawful env t h)
       (λ e l. then_lawful IsLawful IsLawful (ask (combines operator.Mod d e)) (λ s. eval_links env s ls) (ask_lawful (combines operator.Mod d e) (k, l)) (λ s m. eval_links_lawful env s ls h m))
 
+  -- arguments give lawful values
   pub eval_given_lawful : (env : Vars) (args : Arguments) → AreLawfulVars env → StaysLawful AreLawfulIf (eval_given env args)
   eval_given_lawful env no_arguments h = tt
   eval_given_lawful env (argument (plain t) others) h = then_lawful IsLawful AreLawfulIf (eval env t) (λ d. eval_given env others >>= (λ ds. gives (option_map (item d) ds))) (eval_lawful env t h)

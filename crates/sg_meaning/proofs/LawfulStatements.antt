@@ -9,13 +9,13 @@ use Rattle.sg_rows.specs.Order.{Plain}
 use Rattle.sg_rows.specs.Kinds.{as_list}
 use Rattle.sg_rows.specs.Lawful.{IsLawful, AreLawful}
 use Rattle.sg_rows.proofs.SomeValue.{as_list_lawful}
-use Rattle.sg_eval.specs.Process.{Process, gives, sets, ◌>>=◌}
-use Rattle.sg_eval.specs.Expressions.{eval, eval_given, decided, listed}
-use Rattle.sg_eval.specs.Statements.{on, printed, call_done, done, over, exec, exec_all, exec_arms, whole}
-use Rattle.sg_eval.specs.Lawful.{AreLawfulVars, SomeEnd}
-use Rattle.sg_eval.specs.Vars.{Vars}
-use Rattle.sg_eval.proofs.SomeEnd.{StaysLawful, then_lawful, end_some}
-use Rattle.sg_eval.proofs.LawfulExpressions.{decided_lawful, listed_lawful, if_lawful, AreLawfulIf, eval_lawful, eval_given_lawful}
+use Rattle.sg_meaning.specs.Process.{Process, gives, sets, ◌>>=◌}
+use Rattle.sg_meaning.specs.Expressions.{eval, eval_given, decided, listed}
+use Rattle.sg_meaning.specs.Statements.{on, printed, call_done, done, over, exec, exec_all, exec_arms, whole}
+use Rattle.sg_meaning.specs.Lawful.{AreLawfulVars, SomeEnd}
+use Rattle.sg_meaning.specs.Vars.{Vars}
+use Rattle.sg_meaning.proofs.SomeEnd.{StaysLawful, then_lawful, end_some}
+use Rattle.sg_meaning.proofs.LawfulExpressions.{decided_lawful, listed_lawful, if_lawful, AreLawfulIf, eval_lawful, eval_given_lawful}
 
 -- what gives nothing
 abbrev Fine : {A : Type 0} → Process A → Type 0
@@ -86,5 +86,6 @@ whole_lawful (choose guarded other) = on_lawful (exec (choose guarded other)) (e
 whole_lawful (each x t body) = on_lawful (exec (each x t body)) (exec_lawful (each x t body))
 whole_lawful (perform t) = on_lawful (exec (perform t)) (exec_lawful (perform t))
 
+-- a statement over lawful variables ends
 pub statement_some : (c : Code) (vars : Vars) → AreLawfulVars vars → SomeEnd (λ g. ⊤) (whole c) vars
 statement_some c vars l = end_some (λ g. ⊤) (whole c) vars (whole_lawful c) l

@@ -3,11 +3,11 @@ use Rattle.std.specs.Prelude.{◌≡◌, ℕ, List, Result, ⊤}
 use Rattle.sg_tree.specs.Tree.{Code}
 use Rattle.sg_rows.specs.Order.{Reply}
 use Rattle.sg_rows.specs.declared.fault.Fault.{Fault}
-use Rattle.sg_eval.specs.Queries.{Query, IsAnswer}
-use Rattle.sg_eval.specs.Process.{Runs}
-use Rattle.sg_eval.specs.Statements.{Going, whole}
-use Rattle.sg_eval.specs.Vars.{Vars}
-use Rattle.sg_eval.specs.Lawful.{AreLawfulVars, IsLawfulQuery, SomeEnd}
+use Rattle.sg_meaning.specs.Queries.{Query, IsAnswer}
+use Rattle.sg_meaning.specs.Process.{Runs}
+use Rattle.sg_meaning.specs.Statements.{Going, whole}
+use Rattle.sg_meaning.specs.Vars.{Vars}
+use Rattle.sg_meaning.specs.Lawful.{AreLawfulVars, IsLawfulQuery, SomeEnd}
 use Rattle.sg_rows.specs.Lawful.{SomeReply}
 
 -- a query is answered, and a statement over variables ends, in at most one way

@@ -1,6 +1,6 @@
 //! Laws over the definitions, each the contract of a function that does nothing.
 
-ghost use Rattle.sg_eval.specs.Laws.{OneOutcome, SomeOutcome};
+ghost use Rattle.sg_meaning.specs.Laws.{OneOutcome, SomeOutcome};
 
 /// A command, an operator or another form is answered, and a statement over variables ends, in at most one way: with
 /// one value or fault, one list of variables and one text.

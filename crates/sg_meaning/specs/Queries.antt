@@ -4,6 +4,7 @@ use Rattle.sg_value.specs.Plain.{Things}
 use Rattle.sg_value.specs.Data.{int, list, Items, none, item}
 use Rattle.sg_rows.specs.Order.{Plain, Reply, Case, fits, IsReply}
 use Rattle.sg_rows.specs.Kinds.{given, as_integer, as_list, answers}
+use Rattle.sg_meaning.specs.Entries.{entry_at_integer, integers_from}
 use Rattle.sg_calls.specs.Operations.{operation, negation}
 use Rattle.sg_calls.specs.Answers.{Answer}
 use Rattle.sg_calls.specs.declared.operator.Operator.{Operator}
@@ -23,11 +24,6 @@ pub data Query : Type 0 where
   -- an entry of a list by its place
   indexes : Plain → Plain → Query
 
--- so many integers from the first on
-abbrev pub integers_from : ℤ → ℕ → Items Things
-integers_from z zero = none
-integers_from z (suc n) = item (int z) (integers_from (z +ℤ pos 1) n)
-
 -- how many integers there are from the first to the second
 abbrev pub span_count : ℤ → ℕ
 span_count (pos n) = suc n
@@ -35,17 +31,6 @@ span_count (negsuc n) = 0
 
 abbrev pub span_of : Plain → Plain → Case
 span_of a b = given (as_integer a) (λ x. given (as_integer b) (λ y. fits (answers (λ d. d ≡ list (integers_from x (span_count (y -ℤ x)))))))
-
--- the entry at a place, counted from 1 on
-abbrev pub entry_at : Items Things → ℕ → Option Plain
-entry_at none n = None
-entry_at (item d ds) zero = None
-entry_at (item d ds) (suc zero) = Some d
-entry_at (item d ds) (suc (suc n)) = entry_at ds (suc n)
-
-abbrev pub entry_at_integer : Items Things → ℤ → Option Plain
-entry_at_integer ds (pos n) = entry_at ds n
-entry_at_integer ds (negsuc n) = None
 
 abbrev pub found_or_out : Option Plain → Reply
 found_or_out (Some d) = Ok d

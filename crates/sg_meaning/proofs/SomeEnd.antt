@@ -10,10 +10,11 @@ use Rattle.sg_rows.specs.Kinds.{given, as_integer, as_list, answers}
 use Rattle.sg_rows.specs.Lawful.{IsLawful, AreLawful, IsLawfulReply, SomeReply}
 use Rattle.sg_rows.proofs.SomeValue.{reply_some, given_some, answers_some, is_some_value, any_some, as_list_lawful}
 use Rattle.sg_calls.proofs.SomeReply.{commands_some, operators_some, sign_some}
-use Rattle.sg_eval.specs.Lawful.{AreLawfulVars, IsLawfulQuery, SomeEnd}
-use Rattle.sg_eval.specs.Process.{Process, gives, refuses, reads, asks, sets, writes, ◌>>=◌}
-use Rattle.sg_eval.specs.Queries.{Query, calls, combines, negates, lists, spans, indexes, IsAnswer, span_of, integers_from, span_count, entry_at, found_or_out, item_of}
-use Rattle.sg_eval.specs.Vars.{Vars, value_at, with_value}
+use Rattle.sg_meaning.specs.Lawful.{AreLawfulVars, IsLawfulQuery, SomeEnd}
+use Rattle.sg_meaning.specs.Process.{Process, gives, refuses, reads, asks, sets, writes, ◌>>=◌}
+use Rattle.sg_meaning.specs.Entries.{integers_from, entry_at}
+use Rattle.sg_meaning.specs.Queries.{Query, calls, combines, negates, lists, spans, indexes, IsAnswer, span_of, span_count, found_or_out, item_of}
+use Rattle.sg_meaning.specs.Vars.{Vars, value_at, with_value}
 
 -- ---- queries
 
@@ -37,6 +38,7 @@ item_lawful (Some ds) None h = tt
 item_lawful (Some ds) (Some (pos n)) h = found_lawful (entry_at ds n) (entry_lawful ds n h)
 item_lawful (Some ds) (Some (negsuc n)) h = tt
 
+-- a query about lawful values has an answer
 pub answer_some : (q : Query) → IsLawfulQuery q → SomeReply (IsAnswer q)
 answer_some (calls name args) h = commands_some name args h
 answer_some (combines op a b) h = operators_some op a b h.0 h.1
@@ -55,6 +57,7 @@ cond_lawful : (b : Bool) (d : Plain) (o : Option Plain) → IsLawful d → IfSom
 cond_lawful true d o l h = l
 cond_lawful false d o l h = h
 
+-- the value of a name among lawful variables
 pub value_at_lawful : (vars : Vars) (x : List ℕ) → AreLawfulVars vars → IfSome (lookup (bytes_eq x) vars) IsLawful
 value_at_lawful [] x h = tt
 value_at_lawful (v ∷ vs) x h = cond_lawful (bytes_eq x v.0) v.1 (lookup (bytes_eq x) vs) h.0 (value_at_lawful vs x h.1)
@@ -78,6 +81,7 @@ StaysLawful L (asks q k) = IsLawfulQuery q × ((r : Reply) → IsLawfulReply r �
 StaysLawful L (sets x d p) = IsLawful d × StaysLawful L p
 StaysLawful L (writes bs p) = StaysLawful L p
 
+-- one process after another
 pub then_lawful : {A B : Type 0} (L : A → Type 0) (M : B → Type 0) (p : Process A) (f : A → Process B) → StaysLawful L p → ((a : A) → L a → StaysLawful M (f a)) → StaysLawful M (p >>= f)
 then_lawful L M (gives a) f h next = next a h
 then_lawful L M (refuses e) f h next = tt
@@ -86,6 +90,7 @@ then_lawful L M (asks q k) f h next = (h.0, λ r l. then_lawful L M (k r) f (h.1
 then_lawful L M (sets x d p) f h next = (h.0, then_lawful L M p f h.1 next)
 then_lawful L M (writes bs p) f h next = then_lawful L M p f h next
 
+-- what stays lawful ends
 pub end_some : {A : Type 0} (L : A → Type 0) (p : Process A) (vars : Vars) → StaysLawful L p → AreLawfulVars vars → SomeEnd L p vars
 end_some L (gives a) vars h l = (Ok a, vars, [], (refl, refl, refl), h, l)
 end_some L (refuses e) vars h l = (Err e, vars, [], (refl, refl, refl), tt, l)

@@ -17,11 +17,11 @@ use Rattle.sg_rows.specs.Order.{Plain, Reply}
 use Rattle.sg_rows.specs.Kinds.{as_list}
 use Rattle.sg_calls.specs.Commands.{checked}
 use Rattle.sg_rows.specs.Words.{entry_count}
-use Rattle.sg_eval.specs.declared.folding.Folding.{Folding}
-use Rattle.sg_eval.specs.declared.folding.Folding.TheVariants.{EachValue, ThoseTrue, AllTrue, AnyTrue, CountTrue}
-use Rattle.sg_eval.specs.Queries.{Query, calls, combines, negates, lists, spans, indexes}
-use Rattle.sg_eval.specs.Process.{Process, gives, refuses, reads, asks, ◌>>=◌}
-use Rattle.sg_eval.specs.Vars.{Vars}
+use Rattle.sg_meaning.specs.declared.folding.Folding.{Folding}
+use Rattle.sg_meaning.specs.declared.folding.Folding.TheVariants.{EachValue, ThoseTrue, AllTrue, AnyTrue, CountTrue}
+use Rattle.sg_meaning.specs.Queries.{Query, calls, combines, negates, lists, spans, indexes}
+use Rattle.sg_meaning.specs.Process.{Process, gives, refuses, reads, asks, ◌>>=◌}
+use Rattle.sg_meaning.specs.Vars.{Vars}
 
 abbrev pub known : Option Plain → Process Plain
 known None = refuses UnknownName

@@ -2,8 +2,8 @@
 use Rattle.std.specs.Prelude.{◌≡◌, ◌⊎◌, ℕ, List, [], ◌++◌, Option, Result, Ok, Err}
 use Rattle.sg_rows.specs.Order.{Plain, Reply}
 use Rattle.sg_rows.specs.declared.fault.Fault.{Fault}
-use Rattle.sg_eval.specs.Queries.{Query, IsAnswer}
-use Rattle.sg_eval.specs.Vars.{Vars, value_at, with_value}
+use Rattle.sg_meaning.specs.Queries.{Query, IsAnswer}
+use Rattle.sg_meaning.specs.Vars.{Vars, value_at, with_value}
 
 pub data Process (A : Type 0) : Type 0 where
   gives : A → Process A

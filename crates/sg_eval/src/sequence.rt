@@ -9,11 +9,11 @@ pub struct Range {
     pub count: u64,
 }
 
-/// The entries of a list.
+/// What a loop goes over.
 #[derive(Drop)]
-pub enum Entries {
-    /// Each is there, shared with whoever holds the list.
+pub enum Sequence {
+    /// The entries of a list, shared with whoever holds it.
     Listed(Items),
-    /// They are integers in a row.
+    /// Integers in a row.
     Counted(Range),
 }

@@ -1,8 +1,8 @@
 -- Pieces of a script, one after another.
 use Rattle.std.proofs.Common.{◌≡◌, ◌⊎◌, ℕ, List, [], ◌++◌, Result, Ok, Err, inl, inr, refl, ap, sym, ◌∙◌, subst, append_assoc}
 use Rattle.sg_rows.specs.declared.fault.Fault.{Fault}
-use Rattle.sg_eval.specs.Vars.{Vars, value_at, with_value}
-use Rattle.sg_eval.specs.Process.{Process, gives, refuses, reads, asks, sets, writes, ◌>>=◌, Runs, Stops, Breaks}
+use Rattle.sg_meaning.specs.Vars.{Vars, value_at, with_value}
+use Rattle.sg_meaning.specs.Process.{Process, gives, refuses, reads, asks, sets, writes, ◌>>=◌, Runs, Stops, Breaks}
 
 module _ {A B : Type 0} where
   -- a piece that ends well, and what comes after it

@@ -8,8 +8,8 @@ use Rattle.sg_tree.specs.Tree.{Tree, number, quoted, truth, failing, variable, c
 use Rattle.sg_rows.specs.declared.fault.Fault.TheVariants.{WrongType}
 use Rattle.sg_rows.specs.Order.{Plain}
 use Rattle.sg_rows.specs.Kinds.{as_list}
-use Rattle.sg_eval.specs.Process.{Process, gives, refuses, sets, writes, ◌>>=◌}
-use Rattle.sg_eval.specs.Expressions.{eval, eval_given, decided, listed}
+use Rattle.sg_meaning.specs.Process.{Process, gives, refuses, sets, writes, ◌>>=◌}
+use Rattle.sg_meaning.specs.Expressions.{eval, eval_given, decided, listed}
 
 -- how a statement ends that is not refused
 pub data Going : Type 0 where
