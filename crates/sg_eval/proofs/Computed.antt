@@ -3,7 +3,7 @@ use Rattle.std.proofs.Common.{◌≡◌, ℤ, Bool, Some, Ok, refl, ap, subst}
 use Rattle.std.specs.Prelude.{IsTrue, ◌<ℤ◌, ◌≤ℤ◌, ◌↔◌}
 use Rattle.sg_value.specs.Data.{int, truth}
 use Rattle.sg_rows.specs.Order.{IsReply, fits}
-use Rattle.sg_rows.specs.Kinds.{answers, whether}
+use Rattle.sg_rows.specs.Values.{answers, whether}
 use Rattle.sg_rows.proofs.Replying.{delivered, delivers_truth, answers_pass}
 use Rattle.sg_calls.specs.Operations.{calculation}
 use Rattle.sg_calls.specs.declared.operator.Operator.{Operator}

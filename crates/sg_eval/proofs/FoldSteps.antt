@@ -3,11 +3,11 @@ use Rattle.std.proofs.Common.{◌≡◌, ◌⊎◌, ℤ, inl, inr, IsErrAnd, suc
 use Rattle.sg_value.specs.Known.{named}
 use Rattle.std.proofs.Math.Path.{fun_ext}
 use Rattle.std.specs.Prelude.{if◌then◌else◌}
-use Rattle.sg_value.specs.Data.{Data, int, truth, text, list, fail, semigroup, ideal, Items, none, item, data_map, items_map, EachThing, EachThingOfAll, Kind}
+use Rattle.sg_value.specs.Data.{Data, int, truth, text, list, fail, semigroup, ideal, Items, none, item, data_map, items_map, EachThing, EachThingOfAll, Kind, join}
 use Rattle.sg_value.specs.Plain.{Named, AllKnown, AllKnownIn, IsKnown, contents, contents_of_all, plain, plain_of_all, thing_at, Things, Places, Stored}
 use Rattle.sg_value.specs.declared.value.Value.{Value}
 use Rattle.sg_rows.specs.Order.{Plain}
-use Rattle.sg_rows.specs.Words.{entry_count, join}
+use Rattle.sg_rows.specs.Entries.{entry_count}
 use Rattle.sg_meaning.specs.declared.folding.Folding.{Folding}
 use Rattle.sg_meaning.specs.declared.folding.Folding.TheVariants.{EachValue, ThoseTrue, AllTrue, AnyTrue, CountTrue}
 use Rattle.sg_meaning.specs.Expressions.{folded, values_over, true_over, is_each, decided, ask}

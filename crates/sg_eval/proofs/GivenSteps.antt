@@ -4,11 +4,10 @@ use Rattle.sg_value.specs.Known.{Known, named}
 use Rattle.std.proofs.Math.Path.{fun_ext}
 use Rattle.std.proofs.lemmas.List.{drop_more}
 use Rattle.std.specs.Option.{option_map}
-use Rattle.sg_value.specs.Data.{Items, none, item}
+use Rattle.sg_value.specs.Data.{Items, none, item, join}
 use Rattle.sg_value.specs.Plain.{Named, plain_of_all, Things}
 use Rattle.sg_value.specs.declared.value.Value.{Value}
 use Rattle.sg_rows.specs.Order.{Plain}
-use Rattle.sg_rows.specs.Words.{join}
 use Rattle.std.specs.Prelude.{⊤}
 use Rattle.sg_store.specs.Interned.{Keeps}
 use Rattle.sg_calls.specs.Commands.{checked}
@@ -52,22 +51,22 @@ with_where (Some es) (Some d) = Some (join es (item d none))
 abbrev pub after_given : Vars → Arguments → Option (Items Things) → Process (Option (Items Things))
 after_given ps args o = eval_given ps args >>= (λ ds. gives (joined_where o ds))
 
-joined-with : (o : Option (Items Things)) (d : Plain) (ds : Option (Items Things)) → joined_where (with_where o (Some d)) ds ≡ joined_where o (option_map (item d) ds)
-joined-with None d ds = refl
-joined-with (Some es) d None = refl
-joined-with (Some es) d (Some ds) = ap Some (join-one es d ds)
+join-with : (o : Option (Items Things)) (d : Plain) (ds : Option (Items Things)) → joined_where (with_where o (Some d)) ds ≡ joined_where o (option_map (item d) ds)
+join-with None d ds = refl
+join-with (Some es) d None = refl
+join-with (Some es) d (Some ds) = ap Some (join-one es d ds)
 
-joined-without : (o ds : Option (Items Things)) → joined_where (with_where o None) ds ≡ joined_where o None
-joined-without None ds = refl
-joined-without (Some es) ds = refl
+join-without : (o ds : Option (Items Things)) → joined_where (with_where o None) ds ≡ joined_where o None
+join-without None ds = refl
+join-without (Some es) ds = refl
 
 pub given_step : (ps : Vars) (a : Argument) (others : Arguments) (o : Option (Items Things)) → eval_argument ps a >>= (λ d. after_given ps others (with_where o d)) ≡ after_given ps (argument a others) o
 given_step ps (plain_argument t) others o =
     assoc (eval ps t) (λ d. gives (Some d)) (λ d. after_given ps others (with_where o d))
-    ∙ (ap (λ k. eval ps t >>= k) (fun_ext (λ d. ap (λ k. eval_given ps others >>= k) (fun_ext (λ ds. ap gives (joined-with o d ds))) ∙ sym (assoc (eval_given ps others) (λ ds. gives (option_map (item d) ds)) (λ ds. gives (joined_where o ds)))))
+    ∙ (ap (λ k. eval ps t >>= k) (fun_ext (λ d. ap (λ k. eval_given ps others >>= k) (fun_ext (λ ds. ap gives (join-with o d ds))) ∙ sym (assoc (eval_given ps others) (λ ds. gives (option_map (item d) ds)) (λ ds. gives (joined_where o ds)))))
     ∙ sym (assoc (eval ps t) (λ d. eval_given ps others >>= (λ ds. gives (option_map (item d) ds))) (λ ds. gives (joined_where o ds))))
 given_step ps (arrow x t) others o =
-    ap (λ k. eval_given ps others >>= k) (fun_ext (λ ds. ap gives (joined-without o ds))) ∙ sym (assoc (eval_given ps others) (λ ds. gives None) (λ ds. gives (joined_where o ds)))
+    ap (λ k. eval_given ps others >>= k) (fun_ext (λ ds. ap gives (join-without o ds))) ∙ sym (assoc (eval_given ps others) (λ ds. gives None) (λ ds. gives (joined_where o ds)))
 
 pub plain_with : (names : Named) (o : Option (Vec Value Global)) (f : Option Value) (p : Option (Vec Value Global)) → IsWith o f p → plain_where names p ≡ with_where (plain_where names o) (plain_if names f)
 plain_with names None f p is = ap (plain_where names) is
@@ -76,11 +75,11 @@ plain_with names (Some vs) (Some v) None is = absurd is
 plain_with names (Some vs) (Some v) (Some ws) is = ap Some (ap (plain_of_all names) is ∙ plain_of_all-more names vs.items v)
 
 right_unit_where : (p : Process (Option (Items Things))) → p >>= (λ ds. gives (joined_where (Some none) ds)) ≡ p
-right_unit_where p = ap (λ k. p >>= k) (fun_ext (λ ds. ap gives (joined-nothing ds))) ∙ right_unit p
+right_unit_where p = ap (λ k. p >>= k) (fun_ext (λ ds. ap gives (join-nothing ds))) ∙ right_unit p
   where
-    joined-nothing : (ds : Option (Items Things)) → joined_where (Some none) ds ≡ ds
-    joined-nothing None = refl
-    joined-nothing (Some ds) = refl
+    join-nothing : (ds : Option (Items Things)) → joined_where (Some none) ds ≡ ds
+    join-nothing None = refl
+    join-nothing (Some ds) = refl
 
 -- no value is before those of the arguments
 pub given_none : (ps : Vars) (args : Arguments) (names : Named) (vs : Vec Value Global) → vs.items ≡ [] → after_given ps args (plain_where names (Some vs)) ≡ eval_given ps args

@@ -9,11 +9,10 @@ use Rattle.sg_value.specs.declared.value.Value.{Value}
 use Rattle.sg_store.specs.Interned.{Keeps}
 use Rattle.sg_rows.specs.Order.{Plain, Reply, IsReply}
 use Rattle.sg_calls.specs.Commands.{checked, command_named}
-use Rattle.sg_rows.specs.Words.{entry_count}
+use Rattle.sg_rows.specs.Entries.{entry_count}
 use Rattle.sg_calls.specs.Answers.{Answer, reply_unless, case_of}
-use Rattle.sg_meaning.specs.Expressions.{looked_up}
+use Rattle.sg_meaning.specs.Expressions.{looked_up, known}
 use Rattle.sg_meaning.specs.Process.{Runs}
-use Rattle.sg_meaning.specs.Expressions.{known}
 use Rattle.sg_eval.specs.Outcomes.{Evaluates}
 use Rattle.sg_eval.specs.State.{State, vars_of, AreKnown}
 use Rattle.sg_eval.specs.declared.variable.Variable.{Variable}

@@ -6,7 +6,7 @@ use Rattle.sg_value.specs.Plain.{AllKnownIn, IsKnown, Entries, contents_of_all, 
 use Rattle.sg_value.specs.declared.value.Value.{Value}
 use Rattle.sg_value.specs.declared.value.Value.TheVariants as value
 use Rattle.sg_rows.specs.Order.{Row, Case, fits}
-use Rattle.sg_rows.specs.Kinds.{answers}
+use Rattle.sg_rows.specs.Values.{answers}
 use Rattle.sg_rows.specs.Replies.{Replies}
 use Rattle.sg_rows.specs.declared.fault.Fault.TheVariants.{Depth, TooLarge}
 use Rattle.sg_rows.specs.declared.fault.CallFault.TheVariants.{Script}

@@ -8,7 +8,7 @@ use Rattle.sg_value.specs.declared.value.Value.{Value}
 use Rattle.sg_rows.specs.Kinds.{as_integer, as_list}
 use Rattle.sg_rows.specs.declared.fault.Fault.TheVariants.{IndexOut}
 use Rattle.sg_rows.specs.declared.fault.CallFault.TheVariants.{Script}
-use Rattle.sg_rows.proofs.Replying.{as_integer-plain}
+use Rattle.sg_rows.proofs.KindLemmas.{as_integer-plain}
 use Rattle.sg_meaning.specs.Entries.{entry_at, entry_at_integer, as_natural}
 use Rattle.sg_meaning.specs.Queries.{found_or_out, item_of, indexes}
 use Rattle.sg_meaning.specs.Expressions.{ask}

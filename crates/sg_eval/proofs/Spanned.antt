@@ -5,17 +5,18 @@ use Rattle.std.specs.Prelude.{FitsSigned}
 use Rattle.std.specs.Int.{w64}
 use Rattle.std.proofs.lemmas.Int.{ints}
 use Rattle.std.proofs.Math.IntN.{+ℤ_assoc, +ℤ_idr}
-use Rattle.sg_value.specs.Data.{int, list, none, item, items_map, depth_of_all, weight_of_all, EachThingOfAll, Kind}
+use Rattle.sg_value.specs.Data.{int, list, none, item, items_map, depth_of_all, weight_of_all, EachThingOfAll, Kind, join}
 use Rattle.sg_value.specs.Plain.{Named, Things, contents, contents_of_all, plain, thing_at}
 use Rattle.sg_value.specs.declared.value.Value.{Value}
 use Rattle.sg_value.proofs.Joins.{contents_of_all-append}
 use Rattle.sg_rows.specs.Order.{Reply, fits, IsReply, Delivers}
-use Rattle.sg_rows.specs.Kinds.{as_integer, given, answers}
-use Rattle.sg_rows.specs.Words.{join}
+use Rattle.sg_rows.specs.Kinds.{as_integer, given}
+use Rattle.sg_rows.specs.Values.{answers}
 use Rattle.sg_rows.specs.declared.fault.Fault.{Fault}
 use Rattle.sg_rows.specs.declared.fault.Fault.TheVariants.{WrongType, TooLarge}
 use Rattle.sg_rows.specs.declared.fault.CallFault.TheVariants.{Script}
-use Rattle.sg_rows.proofs.Replying.{as_integer-plain, delivered, answers_pass}
+use Rattle.sg_rows.proofs.Replying.{delivered, answers_pass}
+use Rattle.sg_rows.proofs.KindLemmas.{as_integer-plain}
 use Rattle.sg_meaning.specs.Entries.{integers_from}
 use Rattle.sg_meaning.specs.Expressions.{ask}
 use Rattle.sg_eval.specs.Outcomes.{Evaluates}

@@ -2,12 +2,11 @@
 use Rattle.std.proofs.Common.{◌≡◌, ◌<◌, ◌+◌, ℕ, List, [], ◌∷◌, ◌++◌, length, get_or, drop, Bool, true, false, Some, None, Result, Ok, Err, IsErrAnd, Vec, Global, refl, ap, sym, ◌∙◌, subst}
 use Rattle.std.proofs.Math.Path.{fun_ext}
 use Rattle.std.proofs.lemmas.List.{drop_more}
-use Rattle.sg_value.specs.Data.{Data, Items, none, item, truth, int, text, list, fail, semigroup, ideal, Kind}
+use Rattle.sg_value.specs.Data.{Data, Items, none, item, truth, int, text, list, fail, semigroup, ideal, Kind, join}
 use Rattle.sg_value.specs.Plain.{Named, AllKnown, AllKnownIn, plain, plain_of_all, Things}
 use Rattle.sg_value.specs.declared.value.Value.{Value}
 use Rattle.sg_value.proofs.Joins.{join-none, join-one}
 use Rattle.sg_rows.specs.Order.{Plain}
-use Rattle.sg_rows.specs.Words.{join}
 use Rattle.sg_rows.specs.declared.fault.CallFault.{CallFault}
 use Rattle.sg_tree.specs.Tree.{Tree, Trees, no_trees, tree, Links, link}
 use Rattle.sg_tree.specs.TreeView.{tree_of, trees_of, links_of}

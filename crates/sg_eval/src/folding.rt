@@ -3,7 +3,8 @@
 ghost use Rattle.std.specs.Prelude.{◌≡◌, OnOk, IfOk, slice_get};
 ghost use Rattle.sg_value.specs.Known.{named};
 ghost use Rattle.sg_value.specs.Plain.{AllKnown, AllKnownIn, contents, contents_of_all, plain, plain_of_all};
-ghost use Rattle.sg_rows.specs.Words.{join};
+ghost use Rattle.sg_value.specs.Data.{join};
+ghost use Rattle.sg_meaning.specs.Expressions.{folding_named};
 ghost use Rattle.sg_eval.specs.Folded.{goes_on, gathered_at, finished, is_true, listed_if};
 ghost use Rattle.sg_eval.specs.Given.{plain_if, known_if};
 ghost use Rattle.sg_meaning.specs.Process.{gives};

@@ -1,9 +1,8 @@
 //! The operators of chains and comparisons.
 
-ghost use Rattle.std.specs.Prelude.{◌≡◌};
+ghost use Rattle.std.specs.Prelude.{◌≡◌, slice_get};
 ghost use Rattle.sg_value.specs.Known.{named};
 ghost use Rattle.sg_value.specs.Plain.{plain, AllKnown};
-ghost use Rattle.std.specs.Prelude.{slice_get};
 ghost use Rattle.sg_meaning.specs.Expressions.{relation, decided};
 ghost use Rattle.sg_meaning.specs.Process.{gives};
 ghost use Rattle.sg_eval.specs.Linked.{ends_chain, arithmetic};

@@ -1,7 +1,6 @@
 //! The variables, each name with its value.
 
-ghost use Rattle.std.specs.Prelude.{◌≡◌, ℕ, List, Some, None, MatchOption, IfSome, OnOk, OnErr, [], slice_get, ⊤};
-ghost use Rattle.std.specs.Prelude.{Vec, ◌<◌};
+ghost use Rattle.std.specs.Prelude.{◌≡◌, ℕ, List, Some, None, MatchOption, IfSome, OnOk, OnErr, [], slice_get, ⊤, Vec, ◌<◌};
 ghost use Rattle.indexmap.specs.IndexMap.{index_map_len};
 ghost use Rattle.std.specs.Global.{Global};
 ghost use Rattle.sg_value.specs.declared.value.Value.{Value};

@@ -12,7 +12,7 @@ use Rattle.sg_invar.proofs.ListingLemmas.{ListsBelow, lists-none, lists-skip, li
 use Rattle.sg_invar.proofs.GapLemmas.{gap-below_conductor}
 use Rattle.sg_invar.proofs.PseudoFrobeniusLemmas.{outside-below}
 use Rattle.sg_rows.specs.Limits.{IsShort}
-use Rattle.sg_rows.proofs.Spans.{one-frobenius}
+use Rattle.sg_defs.proofs.OneLemmas.{one-frobenius}
 
 -- the members and the gaps below n
 record Split (G : List ℕ) (n : ℕ) : Type 0 where

@@ -1,10 +1,5 @@
-pub mod FirstGenerators
 pub mod Counting
-pub mod AperyModulo
-pub mod OneNumber
-pub mod SomeNumber
-pub mod OneList
-pub mod SomeList
-pub mod OneGapList
-pub mod SomeGapList
-pub mod SomeModulo
+pub mod ModuloLemmas
+pub mod Bounds
+pub mod OneFact
+pub mod SomeFact

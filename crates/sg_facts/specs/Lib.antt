@@ -1,4 +1,1 @@
-pub mod Numbers
-pub mod Lists
-pub mod GapLists
-pub mod Modulo
+pub mod Facts

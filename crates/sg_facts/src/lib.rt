@@ -1,16 +1,13 @@
 //! The rows of the commands that tell facts of a numerical semigroup: its numbers and lists.
 //!
-//! Each answers its definition over all integers (`specs`), or the first refusal in the one order of all rows.
+//! A semigroup is seen as its minimal list. `specs/Facts` has the names and the rows, each by its definition over all
+//! integers. The layer above uses: `named` and `takes` are the table of names; each kind of fact tells its row's value or
+//! its first refusal (`Tells`).
 #![tactic(auto)]
 
+mod fact;
 mod gap_lists;
-mod lists;
 mod modulo;
-mod numbers;
 
-pub use gap_lists::{fundamental_gaps_of, gaps_of, small_elements_of};
-pub use lists::{apery_list_of, minimal_generators_of, pseudo_frobenius_of, special_gaps_of};
-pub use modulo::apery_list_modulo_of;
-pub use numbers::{
-    conductor_of, embedding_dimension_of, frobenius_number_of, genus_of, multiplicity_of, type_of,
-};
+pub use fact::{BothFact, Fact, GeneratorsFact, NumbersFact, TableFact, named, takes};
+pub use modulo::AperyModulo;

@@ -7,7 +7,7 @@ use Rattle.std.proofs.lemmas.Nat.Gcd.{IsGcd-from_mod, IsGcd-from_zero, dvd_refl,
 use Rattle.std.proofs.Math.Nat.{one-dvd, dvd-mul_right, dvd-mul_left, pos_of_dvd_of_pos, eq-zero_of_zero-dvd}
 use Rattle.sg_nat.specs.Arithmetic.{IsLcm, LcmReaches}
 use Rattle.sg_nat.proofs.LcmLemmas.{IsLcm-by_gcd, IsLcm-zero}
-use Rattle.sg_lists.specs.Words.{EachOf, IsGcdOfAll, IsLcmOfAll}
+use Rattle.sg_lists.specs.Integers.{EachOf, IsGcdOfAll, IsLcmOfAll}
 
 -- the size of the entry at i
 abbrev size_at : List ℤ → ℕ → ℕ

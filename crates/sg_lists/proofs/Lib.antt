@@ -1,6 +1,6 @@
-pub mod OneEntry
-pub mod SomeEntry
-pub mod Dividing
-pub mod NumberReplies
 pub mod Joining
 pub mod Concatenations
+pub mod Dividing
+pub mod Numbers
+pub mod OneList
+pub mod SomeList

@@ -1,2 +1,3 @@
-pub mod Words
+pub mod Integers
+pub mod Concatenations
 pub mod Lists

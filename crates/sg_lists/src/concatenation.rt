@@ -5,21 +5,18 @@ ghost use Rattle.sg_value.specs.Known.{Known, named};
 ghost use Rattle.sg_value.specs.Data.{Items, item, list, weight_of_all, depth_of_all};
 ghost use Rattle.sg_value.specs.Plain.{AllKnownIn, contents, contents_of_all, plain_of_all, Places};
 ghost use Rattle.sg_rows.specs.Kinds.{as_list};
-ghost use Rattle.sg_rows.specs.Words.{join};
-ghost use Rattle.sg_lists.specs.Words.{joined};
-ghost use Rattle.sg_lists.specs.Lists.{concatenation_of, left_in};
+ghost use Rattle.sg_value.specs.Data.{join};
+ghost use Rattle.sg_lists.specs.Concatenations.{concatenated};
+ghost use Rattle.sg_lists.specs.Concatenations.{concatenation_of, left_in};
 ghost use Rattle.sg_rows.specs.Replies.{Replies};
 
 use sg_rows::{CallFault, Fault, entries_of, is_heavy};
-use sg_value::{Items as Entries, Value, depth, try_clone, weight};
+use sg_value::{Items as Entries, NESTING_LIMIT, Value, depth, try_clone, weight};
 use std::alloc::{AllocError, Global};
-
-/// How deep lists may nest.
-const DEPTH_LIMIT: u64 = 64;
 
 /// Whether all are lists.
 fn are_lists(values: &[Value]) -> bool
-    ensures { IsTrue result ↔ IsSome (joined (contents_of_all values.now)) }
+    ensures { IsTrue result ↔ IsSome (concatenated (contents_of_all values.now)) }
 {
     for value in values {
         if entries_of(value).is_none() {
@@ -31,10 +28,10 @@ fn are_lists(values: &[Value]) -> bool
 
 /// Whether some value nests too deep.
 fn are_deep(values: &[Value]) -> bool
-    ensures { IsTrue result ↔ (64 < depth_of_all (contents_of_all values.now)) }
+    ensures { IsTrue result ↔ (NESTING_LIMIT < depth_of_all (contents_of_all values.now)) }
 {
     for value in values {
-        if depth(value) > DEPTH_LIMIT {
+        if depth(value) > NESTING_LIMIT {
             return true;
         }
     }
@@ -54,21 +51,21 @@ fn total_weight(values: &[Value]) -> u64
 
 /// Whether a value and all others are lists.
 fn are_all_lists(value: &Value, others: &[Value]) -> bool
-    ensures { IsTrue result ↔ IsSome (joined (item (contents value.now) (contents_of_all others.now))) }
+    ensures { IsTrue result ↔ IsSome (concatenated (item (contents value.now) (contents_of_all others.now))) }
 {
     entries_of(value).is_some() && are_lists(others)
 }
 
 /// Whether a value or another nests too deep.
 fn is_one_deep(value: &Value, others: &[Value]) -> bool
-    ensures { IsTrue result ↔ (64 < depth_of_all (item (contents value.now) (contents_of_all others.now))) }
+    ensures { IsTrue result ↔ (NESTING_LIMIT < depth_of_all (item (contents value.now) (contents_of_all others.now))) }
 {
-    depth(value) > DEPTH_LIMIT || are_deep(others)
+    depth(value) > NESTING_LIMIT || are_deep(others)
 }
 
 /// Whether the entries of all lists are too heavy for one list. Each list weighs 1 more than its entries.
 fn are_heavy(value: &Value, others: &[Value]) -> bool
-    ensures { (ds : Items Places) → joined (item (contents value.now) (contents_of_all others.now)) ≡ Some ds → IsTrue result ↔ (4194304 ≤ weight_of_all ds) }
+    ensures { (ds : Items Places) → concatenated (item (contents value.now) (contents_of_all others.now)) ≡ Some ds → IsTrue result ↔ (WEIGHT_LIMIT ≤ weight_of_all ds) }
 {
     let total = weight(value).saturating_add(total_weight(others));
     is_heavy(total.saturating_sub(others.len() as u64 + 1))
@@ -96,7 +93,7 @@ fn add_entries(alloc: Global, copies: &mut Vec<Value>, list: &Value) -> Result<(
 
 /// Copies of the entries of all lists.
 fn copies_of_all(alloc: Global, lists: &[Value]) -> Result<Vec<Value>, AllocError>
-    ensures { IfOk result (λ vs. (ds : Items Places) → joined (contents_of_all lists.now) ≡ Some ds → contents_of_all vs.items ≡ ds) }
+    ensures { IfOk result (λ vs. (ds : Items Places) → concatenated (contents_of_all lists.now) ≡ Some ds → contents_of_all vs.items ≡ ds) }
 {
     let mut copies = Vec::new(alloc);
     for list in lists {

@@ -1,18 +1,13 @@
 //! Greatest common divisors and least common multiples of lists.
 
-ghost use Rattle.std.specs.Prelude.{◌≡◌, ◌<◌, ◌^◌, ◌↔◌, ℕ, ℤ, pos, List, [], ◌∷◌, SomeIff, IsTrue, FitsSigned, Contains, slice_get};
-ghost use Rattle.sg_value.specs.Known.{Known, named};
+ghost use Rattle.std.specs.Prelude.{◌≡◌, ◌<◌, ◌^◌, ◌↔◌, ℕ, pos, SomeIff, IsTrue, FitsSigned, Contains};
 ghost use Rattle.std.specs.Int.{w64};
-ghost use Rattle.sg_value.specs.Plain.{plain_of_all};
-ghost use Rattle.sg_rows.specs.Kinds.{given, spread};
-ghost use Rattle.sg_lists.specs.Words.{IsGcdOfAll, IsLcmOfAll};
-ghost use Rattle.sg_lists.specs.Lists.{gcd_of, lcm_of};
-ghost use Rattle.sg_rows.specs.Replies.{Replies};
+ghost use Rattle.sg_lists.specs.Integers.{IsGcdOfAll, IsLcmOfAll};
+ghost use Rattle.sg_lists.specs.Lists.{a_number};
+ghost use Rattle.sg_rows.specs.Made.{Tells};
 
 use sg_nat::{gcd, lcm};
-use sg_rows::{CallFault, Fault, integer, spread_integers};
-use sg_value::Value;
-use std::alloc::Global;
+use sg_rows::{CallFault, Fault, Made, integer};
 
 /// The greatest common divisor of the integers, and 0 of none.
 fn common_divisor(zs: &[i64]) -> u64
@@ -33,21 +28,13 @@ fn signed(found: Option<u64>) -> Option<i64>
 }
 
 /// The greatest common divisor, where there is an entry.
-fn gcd_of_integers(zs: &[i64]) -> Result<Value, CallFault>
-    ensures { (store : Known) → Replies result store (gcd_of zs.now) }
+pub(crate) fn gcd_of(zs: &[i64]) -> Result<Made, CallFault>
+    ensures { Tells result (a_number (IsGcdOfAll zs.now) zs.now) }
 {
     if zs.is_empty() {
         return Err(CallFault::Script(Fault::BadArgument));
     }
     integer(signed(Some(common_divisor(zs))))
-}
-
-/// The greatest common divisor of integers, given as one list or as the arguments.
-pub fn gcd_of(alloc: Global, args: &[Value]) -> Result<Value, CallFault>
-    ensures { (store : Known) → Replies result store (given (spread (plain_of_all (named store) args.now)) gcd_of) }
-{
-    let zs = spread_integers(alloc, args)?;
-    gcd_of_integers(zs.as_slice())
 }
 
 /// The least common multiple of integers other than 0, where it is below 2^64.
@@ -81,19 +68,11 @@ fn common_multiple(zs: &[i64]) -> Option<u64>
 }
 
 /// The least common multiple, where there is an entry.
-fn lcm_of_integers(zs: &[i64]) -> Result<Value, CallFault>
-    ensures { (store : Known) → Replies result store (lcm_of zs.now) }
+pub(crate) fn lcm_of(zs: &[i64]) -> Result<Made, CallFault>
+    ensures { Tells result (a_number (IsLcmOfAll zs.now) zs.now) }
 {
     if zs.is_empty() {
         return Err(CallFault::Script(Fault::BadArgument));
     }
     integer(signed(common_multiple(zs)))
-}
-
-/// The least common multiple of integers, given as one list or as the arguments.
-pub fn lcm_of(alloc: Global, args: &[Value]) -> Result<Value, CallFault>
-    ensures { (store : Known) → Replies result store (given (spread (plain_of_all (named store) args.now)) lcm_of) }
-{
-    let zs = spread_integers(alloc, args)?;
-    lcm_of_integers(zs.as_slice())
 }

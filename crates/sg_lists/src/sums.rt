@@ -1,16 +1,13 @@
 //! Sums of lists.
 
-ghost use Rattle.std.specs.Prelude.{◌≡◌, ℕ, ℤ, List, SomeIff, FitsSigned, slice_get};
-ghost use Rattle.sg_value.specs.Known.{Known, named};
+ghost use Rattle.std.specs.Prelude.{◌≡◌, ℤ, SomeIff, FitsSigned};
 ghost use Rattle.std.specs.Int.{w64};
-ghost use Rattle.sg_value.specs.Plain.{plain};
-ghost use Rattle.sg_lists.specs.Words.{total};
-ghost use Rattle.sg_lists.specs.Lists.{sum_of};
-ghost use Rattle.sg_rows.specs.Replies.{Replies};
+ghost use Rattle.sg_lists.specs.Integers.{total};
+ghost use Rattle.sg_rows.specs.Made.{Tells};
+ghost use Rattle.sg_rows.specs.Values.{answers};
+ghost use Rattle.sg_value.specs.Data.{int};
 
-use sg_rows::{CallFault, integer, list_of_integers};
-use sg_value::Value;
-use std::alloc::Global;
+use sg_rows::{CallFault, Made, integer};
 
 /// The sum of the integers: fewer than 2^64 of them, each of 64 bits, stay within 128 bits.
 fn total(zs: &[i64]) -> i128
@@ -30,10 +27,9 @@ fn narrowed(z: i128) -> Option<i64>
     i64::try_from(z).ok()
 }
 
-/// The sum of a list of integers. It overflows by the whole sum alone, whatever the sums on the way.
-pub fn sum_of(alloc: Global, list: &Value) -> Result<Value, CallFault>
-    ensures { (store : Known) → Replies result store (sum_of (plain (named store) list.now)) }
+/// The sum of the integers. It overflows by the whole sum alone, whatever the sums on the way.
+pub(crate) fn sum_of(zs: &[i64]) -> Result<Made, CallFault>
+    ensures { Tells result (answers (λ d. d ≡ int (total zs.now))) }
 {
-    let zs = list_of_integers(alloc, list)?;
-    integer(narrowed(total(zs.as_slice())))
+    integer(narrowed(total(zs)))
 }

@@ -9,11 +9,11 @@ use Rattle.sg_apery.specs.Fit.{IsFit}
 use Rattle.sg_apery.specs.Generators.{AreAccepted, AreRefused}
 use Rattle.sg_apery.specs.declared.fault.TableFault.TheVariants as table
 use Rattle.sg_apery.specs.Limits.{GENERATOR_LIMIT, MULTIPLICITY_LIMIT}
-use Rattle.sg_makers.specs.Words.{AreSmall, ArePositive, naturals, Generate}
+use Rattle.sg_makers.specs.Integers.{AreBelow, ArePositive, naturals, Generate}
 use Rattle.sg_makers.proofs.Serving.{Serves}
 
 -- entries that are small and positive are small naturals
-small_natural : (zs : List ℤ) → AreSmall zs → All (λ z. pos 1 ≤ℤ z) zs → (k : ℕ) → k < length (naturals zs) → GENERATOR_LIMIT ≤ slice_index (naturals zs) k → ⊥
+small_natural : (zs : List ℤ) → AreBelow zs → All (λ z. pos 1 ≤ℤ z) zs → (k : ℕ) → k < length (naturals zs) → GENERATOR_LIMIT ≤ slice_index (naturals zs) k → ⊥
 small_natural [] small positive k within large = omega arith
 small_natural (pos n ∷ zs) small positive zero within large = let below : pos n <ℤ pos GENERATOR_LIMIT = small 0 (pos 0) (omega arith) in omega (arith, ints, below)
 small_natural (negsuc n ∷ zs) small positive zero within large = let from : pos 1 ≤ℤ negsuc n = positive 0 (pos 0) (omega arith) in omega (arith, ints, from)
@@ -43,9 +43,9 @@ not_fit given G large generated fit =
     by (inr l) f h k = omega arith
 
 -- the constructor from generators serves the row
-pub generators_serve : (zs : List ℤ) (list : List ℕ) → list ≡ naturals zs → AreSmall zs → ArePositive zs
-    → Serves (IsMember (naturals zs)) (IsMember list) (AreAccepted list) (AreRefused list) (¬ AreSmall zs) (¬ Generate zs)
-generators_serve zs list is small positive = subst (λ l. Serves (IsMember (naturals zs)) (IsMember l) (AreAccepted l) (AreRefused l) (¬ AreSmall zs) (¬ Generate zs)) (sym is) (record {
+pub generators_serve : (zs : List ℤ) (list : List ℕ) → list ≡ naturals zs → AreBelow zs → ArePositive zs
+    → Serves (IsMember (naturals zs)) (IsMember list) (AreAccepted list) (AreRefused list) (¬ AreBelow zs) (¬ Generate zs)
+generators_serve zs list is small positive = subst (λ l. Serves (IsMember (naturals zs)) (IsMember l) (AreAccepted l) (AreRefused l) (¬ AreBelow zs) (¬ Generate zs)) (sym is) (record {
   small = λ n. n small;
   same = λ n. ((λ h. h), (λ h. h));
   good = λ G g accepted n. n (positive, accepted.semigroup);

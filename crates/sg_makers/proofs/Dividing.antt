@@ -8,7 +8,7 @@ use Rattle.sg_apery.specs.Fit.{IsFit}
 use Rattle.sg_apery.specs.Fundamental.{AreWithin as AreWithinNaturals, HasPast, DividesNone, AreFundamentalRefused}
 use Rattle.sg_apery.specs.declared.fault.TableFault.TheVariants as table
 use Rattle.sg_apery.specs.Limits.{FUNDAMENTAL_GAP_LIMIT}
-use Rattle.sg_makers.specs.Words.{naturals, ArePositive, AreWithin, AreFundamental}
+use Rattle.sg_makers.specs.Integers.{naturals, ArePositive, AreWithin, AreFundamental}
 use Rattle.sg_makers.proofs.Serving.{Serves, unfit}
 use Rattle.sg_makers.proofs.Naturals.{as_long}
 

@@ -4,7 +4,7 @@ use Rattle.sg_apery.specs.Classes.{IsAboveEntry, IsKunz}
 use Rattle.sg_apery.specs.Conditions.{IsAperyRefused, IsInSmall, IsClosedSet, AreSmallAccepted, AreSmallRefused, IsOutside, AreGapsRefused}
 use Rattle.sg_apery.specs.declared.fault.TableFault.TheVariants as table
 use Rattle.sg_apery.proofs.DerivedLemmas.{generates-iff}
-use Rattle.sg_makers.specs.Words.{naturals, AreNatural, ArePositive, IsNoEntry, AreGaps, IsEntryOrAbove, AreSmallElements, AreApery}
+use Rattle.sg_makers.specs.Integers.{naturals, AreNatural, ArePositive, IsNoEntry, AreGaps, IsEntryOrAbove, AreSmallElements, AreApery}
 use Rattle.sg_makers.proofs.Serving.{Serves, unfit}
 use Rattle.sg_makers.proofs.Naturals.{as_long, positive_natural, contains_natural, above_natural}
 

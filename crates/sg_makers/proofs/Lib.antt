@@ -1,10 +1,9 @@
 pub mod Serving
-pub mod Taking
 pub mod Constructing
-pub mod SomeSemigroup
 pub mod Deriving
 pub mod Naturals
 pub mod FromLists
 pub mod Dividing
-pub mod Proportions
-pub mod OneSemigroup
+pub mod ProportionLemmas
+pub mod OneMaker
+pub mod SomeMaker

@@ -4,7 +4,7 @@ use Rattle.std.specs.Prelude.{◌≤ℤ◌, ◌<ℤ◌, All, Contains, EachIndex
 use Rattle.std.proofs.lemmas.Int.{ints}
 use Rattle.std.proofs.lemmas.List.{length-map, get_or_default}
 use Rattle.std.proofs.Math.ListN.{get_or-map}
-use Rattle.sg_makers.specs.Words.{naturals, AreNatural, ArePositive}
+use Rattle.sg_makers.specs.Integers.{naturals, AreNatural, ArePositive}
 
 -- a natural is its absolute value
 natural_is : (z : ℤ) (n : ℕ) → pos 0 ≤ℤ z → nat_abs z ≡ n → z ≡ pos n

@@ -1,6 +1,4 @@
-pub mod Words
+pub mod Integers
+pub mod Rows
 pub mod Makers
 pub mod Settled
-pub mod Derived
-pub mod Listed
-pub mod Modular

@@ -12,9 +12,9 @@ use Rattle.sg_calls.specs.declared.operator.Operator.TheVariants as operator
 use Rattle.sg_rows.specs.declared.fault.Fault.{Fault}
 use Rattle.sg_rows.specs.Order.{Plain, Reply}
 use Rattle.sg_rows.specs.Kinds.{as_list}
-use Rattle.sg_rows.specs.Words.{entry_count}
-use Rattle.sg_rows.specs.Lawful.{IsLawful, AreLawful, IsLawfulReply}
-use Rattle.sg_rows.proofs.SomeValue.{as_list_lawful}
+use Rattle.sg_rows.specs.Entries.{entry_count}
+use Rattle.sg_rows.specs.Lawful.{IsLawful, AreLawful, IsLawfulReply, IsLawfulThing}
+use Rattle.sg_rows.proofs.KindLemmas.{as_list-each}
 use Rattle.sg_calls.specs.Commands.{checked}
 use Rattle.sg_meaning.specs.Queries.{Query, calls, combines, negates, lists, spans, indexes}
 use Rattle.sg_meaning.specs.Process.{Process, gives, refuses, ◌>>=◌}
@@ -183,7 +183,7 @@ mutual
   eval_folding_lawful env (argument (arrow x t) no_arguments) f h = tt
   eval_folding_lawful env (argument (plain t) (argument (arrow x body) no_arguments)) f h =
       then_lawful IsLawful IsLawful (eval env t) (λ d. listed (as_list d) (folded f (λ e. eval ((x, e) ∷ env) body))) (eval_lawful env t h)
-      (λ d l. listed_lawful IsLawful (as_list d) (folded f (λ e. eval ((x, e) ∷ env) body)) (as_list_lawful d l)
+      (λ d l. listed_lawful IsLawful (as_list d) (folded f (λ e. eval ((x, e) ∷ env) body)) ((as_list-each IsLawfulThing) d l)
       (λ ds m. folded_lawful (λ e. eval ((x, e) ∷ env) body) (λ e k. eval_lawful ((x, e) ∷ env) body (k, h)) f ds m))
   eval_folding_lawful env (argument (plain t) (argument (plain u) no_arguments)) f h = then_lawful IsLawful IsLawful (eval env t) (λ d. eval env u >>= (λ e. refuses _)) (eval_lawful env t h)
       (λ d l. then_lawful IsLawful IsLawful (eval env u) (λ e. refuses _) (eval_lawful env u h) (λ e m. tt))

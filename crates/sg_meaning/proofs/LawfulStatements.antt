@@ -7,8 +7,8 @@ use Rattle.sg_value.specs.Data.{Items, none, item}
 use Rattle.sg_tree.specs.Tree.{Tree, number, quoted, truth, failing, variable, call, display, span, minus, negation, chain, compare, item as item_tree, Arguments, Code, nothing, quit, assign, choose, each, perform, Arms, no_arms, arm, Block, skip, code}
 use Rattle.sg_rows.specs.Order.{Plain}
 use Rattle.sg_rows.specs.Kinds.{as_list}
-use Rattle.sg_rows.specs.Lawful.{IsLawful, AreLawful}
-use Rattle.sg_rows.proofs.SomeValue.{as_list_lawful}
+use Rattle.sg_rows.specs.Lawful.{IsLawful, AreLawful, IsLawfulThing}
+use Rattle.sg_rows.proofs.KindLemmas.{as_list-each}
 use Rattle.sg_meaning.specs.Process.{Process, gives, sets, ◌>>=◌}
 use Rattle.sg_meaning.specs.Expressions.{eval, eval_given, decided, listed}
 use Rattle.sg_meaning.specs.Statements.{on, printed, call_done, done, over, exec, exec_all, exec_arms, whole}
@@ -61,7 +61,7 @@ mutual
   exec_lawful (assign x t) = then_lawful IsLawful (λ u. ⊤) (eval [] t) (λ d. sets x d (gives tt)) (eval_lawful [] t tt) (λ d l. (l, tt))
   exec_lawful (choose guarded other) = exec_arms_lawful guarded (exec_all other) (exec_all_lawful other)
   exec_lawful (each x t body) = then_lawful IsLawful (λ u. ⊤) (eval [] t) (λ d. listed (as_list d) (over (λ e. sets x e (exec_all body)))) (eval_lawful [] t tt)
-      (λ d l. listed_lawful (λ u. ⊤) (as_list d) (over (λ e. sets x e (exec_all body))) (as_list_lawful d l)
+      (λ d l. listed_lawful (λ u. ⊤) (as_list d) (over (λ e. sets x e (exec_all body))) ((as_list-each IsLawfulThing) d l)
       (λ ds m. over_lawful (λ e. sets x e (exec_all body)) (λ e k. (k, exec_all_lawful body)) ds m))
   exec_lawful (perform t) = done_lawful t
 

@@ -3,7 +3,8 @@ use Rattle.std.proofs.Common.{◌≡◌, ℕ, List, ◌++◌, Result, ap, sym, �
 use Rattle.std.specs.Prelude.{◌-ℤ◌}
 use Rattle.sg_value.specs.Data.{list}
 use Rattle.sg_rows.specs.Order.{Reply, fits}
-use Rattle.sg_rows.specs.Kinds.{answers, as_integer, given}
+use Rattle.sg_rows.specs.Kinds.{as_integer, given}
+use Rattle.sg_rows.specs.Values.{answers}
 use Rattle.sg_rows.specs.declared.fault.Fault.{Fault}
 use Rattle.sg_rows.proofs.OneValue.{reply_one, given_one, is_one}
 use Rattle.sg_calls.proofs.OneReply.{operators_one, sign_one, commands_one}

@@ -6,9 +6,11 @@ use Rattle.std.specs.Map.{lookup}
 use Rattle.std.specs.Str.{bytes_eq}
 use Rattle.sg_value.specs.Data.{list, Items, none, item}
 use Rattle.sg_rows.specs.Order.{Plain, Reply, fits}
-use Rattle.sg_rows.specs.Kinds.{given, as_integer, as_list, answers}
-use Rattle.sg_rows.specs.Lawful.{IsLawful, AreLawful, IsLawfulReply, SomeReply}
-use Rattle.sg_rows.proofs.SomeValue.{reply_some, given_some, answers_some, is_some_value, any_some, as_list_lawful}
+use Rattle.sg_rows.specs.Kinds.{given, as_integer, as_list}
+use Rattle.sg_rows.specs.Values.{answers}
+use Rattle.sg_rows.specs.Lawful.{IsLawful, AreLawful, IsLawfulReply, SomeReply, IsLawfulThing}
+use Rattle.sg_rows.proofs.SomeValue.{reply_some, given_some, answers_some, is_some_value}
+use Rattle.sg_rows.proofs.KindLemmas.{any_some, as_list-each}
 use Rattle.sg_calls.proofs.SomeReply.{commands_some, operators_some, sign_some}
 use Rattle.sg_meaning.specs.Lawful.{AreLawfulVars, IsLawfulQuery, SomeEnd}
 use Rattle.sg_meaning.specs.Process.{Process, gives, refuses, reads, asks, sets, writes, ◌>>=◌}
@@ -49,7 +51,7 @@ answer_some (spans a b) h =
     (given_some (λ x. ⊤) (as_integer a) (λ x. given (as_integer b) (λ y. fits (answers (λ d. d ≡ list (integers_from x (span_count (y -ℤ x))))))) (any_some (as_integer a))
     (λ x l. given_some (λ y. ⊤) (as_integer b) (λ y. fits (answers (λ d. d ≡ list (integers_from x (span_count (y -ℤ x)))))) (any_some (as_integer b))
     (λ y m. answers_some _ (is_some_value (list (integers_from x (span_count (y -ℤ x)))) (integers_lawful x (span_count (y -ℤ x)))))))
-answer_some (indexes a i) h = (item_of (as_list a) (as_integer i), refl, item_lawful (as_list a) (as_integer i) (as_list_lawful a h.0))
+answer_some (indexes a i) h = (item_of (as_list a) (as_integer i), refl, item_lawful (as_list a) (as_integer i) ((as_list-each IsLawfulThing) a h.0))
 
 -- ---- variables
 

@@ -16,7 +16,7 @@ use Rattle.sg_rows.specs.declared.fault.Fault.TheVariants.{UnknownName, WrongTyp
 use Rattle.sg_rows.specs.Order.{Plain, Reply}
 use Rattle.sg_rows.specs.Kinds.{as_list}
 use Rattle.sg_calls.specs.Commands.{checked}
-use Rattle.sg_rows.specs.Words.{entry_count}
+use Rattle.sg_rows.specs.Entries.{entry_count}
 use Rattle.sg_meaning.specs.declared.folding.Folding.{Folding}
 use Rattle.sg_meaning.specs.declared.folding.Folding.TheVariants.{EachValue, ThoseTrue, AllTrue, AnyTrue, CountTrue}
 use Rattle.sg_meaning.specs.Queries.{Query, calls, combines, negates, lists, spans, indexes}

@@ -3,7 +3,8 @@ use Rattle.std.specs.Prelude.{◌≡◌, ℕ, zero, suc, ℤ, pos, negsuc, ◌-�
 use Rattle.sg_value.specs.Plain.{Things}
 use Rattle.sg_value.specs.Data.{int, list, Items, none, item}
 use Rattle.sg_rows.specs.Order.{Plain, Reply, Case, fits, IsReply}
-use Rattle.sg_rows.specs.Kinds.{given, as_integer, as_list, answers}
+use Rattle.sg_rows.specs.Kinds.{given, as_integer, as_list}
+use Rattle.sg_rows.specs.Values.{answers}
 use Rattle.sg_meaning.specs.Entries.{entry_at_integer, integers_from}
 use Rattle.sg_calls.specs.Operations.{operation, negation}
 use Rattle.sg_calls.specs.Answers.{Answer}

@@ -1,7 +1,7 @@
 pub mod Serving
-pub mod Arguments
-pub mod Again
+pub mod Served
+pub mod Canonically
+pub mod Regenerating
 pub mod Reaching
-pub mod Replying
 pub mod OneIdeal
 pub mod SomeIdeal

@@ -1,4 +1,4 @@
--- Ideals that calls made, as replies of rows.
+-- Ideals that calls made, as what rows tell.
 use Rattle.std.proofs.Common.{ℕ, ℤ, List, Result, Ok, Err, inl, inr, refl, ap, sym, subst}
 use Rattle.std.specs.Prelude.{IfOk, IfErr, OnOk, ◌⊎◌}
 use Rattle.sg_ideal.specs.Value.{HasLargeGenerator, IdealValue, IsIdealOf}
@@ -6,15 +6,13 @@ use Rattle.sg_ideal.specs.declared.fault.IdealFault.{IdealFault}
 use Rattle.sg_ideal.specs.declared.fault.IdealFault.TheVariants as made_of
 use Rattle.sg_generated.proofs.SizeDecisions.{large_generator-none}
 use Rattle.sg_value.specs.Data.{ideal}
-use Rattle.sg_value.specs.Known.{Known}
-use Rattle.sg_value.specs.declared.value.Value.{Value}
-use Rattle.sg_rows.specs.Order.{Row, fits}
-use Rattle.sg_rows.specs.Replies.{Replies}
+use Rattle.sg_rows.specs.Order.{Row}
+use Rattle.sg_rows.specs.Made.{Tells}
+use Rattle.sg_rows.specs.declared.made.Made.{Made}
 use Rattle.sg_rows.specs.declared.fault.CallFault.{CallFault}
 use Rattle.sg_rows.specs.declared.fault.CallFault.TheVariants.{Script, Memory}
-use Rattle.sg_rows.proofs.Ideals.{replies_ideal}
-use Rattle.sg_relative.specs.Settled.{IsHeldAs, IsSettled, IsWantOfMemory}
-use Rattle.sg_relative.specs.Words.{an_ideal, stored}
+use Rattle.sg_relative.specs.Settled.{IsIdealMade, IsSettled, IsWantOfMemory}
+use Rattle.sg_relative.specs.Rows.{an_ideal, over}
 
 -- no condition on arguments
 pub always : {A E : Type 0} (r : Result A E) → OnOk r (Unit {0})
@@ -31,31 +29,33 @@ pub record Serves (G : List ℕ) (P : ℤ → Type 0) (accepted : Type 0) (R : I
   pub refused : R made_of.BadArgument → (¬ size) × bad
   pub large : R made_of.TooLarge → size ⊎ ((¬ size) × (¬ bad) × HasLargeGenerator G P)
 
-module _ (G : List ℕ) (P : ℤ → Type 0) (size bad : Type 0) (store : Known) where
+module _ (G : List ℕ) (P : ℤ → Type 0) (size bad : Type 0) where
   abbrev row : Row
   row = record (an_ideal G P) { size = size; bad = bad }
 
-  -- an ideal that the store holds
-  pub held : (J : IdealValue) (v : Value) → IsHeldAs store J v → IsIdealOf G P J → (¬ size) × (¬ bad) → Replies (Ok v) store (fits row)
-  held J v h made good =
-      subst (λ w. Replies (Ok w) store (fits row)) (sym h.1)
-      (replies_ideal store row (stored J) h.0 (record { size = good.0; bad = good.1; limit = λ l. l J.generators made.generates made.small; many = λ n. n; budget = λ n. n })
-      (J.generators, ap (λ A. ideal (record { ambient = A; generators = J.generators })) made.ambient, made.generates) h.2)
+  -- an ideal that was made
+  pub told : (J : IdealValue) (m : Made) → IsIdealMade J m → IsIdealOf G P J → (¬ size) × (¬ bad) → Tells (Ok m) row
+  told J m h made good =
+      subst (λ x. Tells (Ok x) row) (sym h.0)
+      (record {
+        passes = record { size = good.0; bad = good.1; limit = λ l. l J.generators made.generates made.small; many = λ n. n; budget = λ n. n };
+        value = (J.generators, ap (λ A. ideal (over A J.generators)) made.ambient, made.generates);
+      }, h.1)
 
-  no_memory : (e : CallFault) → IsWantOfMemory e → Replies (Err e) store (fits row)
+  no_memory : (e : CallFault) → IsWantOfMemory e → Tells (Err e) row
   no_memory (Script e) h = absurd h
   no_memory (Memory e) h = tt
 
   module _ (accepted : Type 0) (R : IdealFault → Type 0) (serves : Serves G P accepted R size bad) where
     -- the reply of a row that such a call serves
-    pub settles : (made : Result IdealValue IdealFault) (r : Result Value CallFault) → IsSettled made store r → IfOk made (IsIdealOf G P) → OnOk made accepted → IfErr made R → Replies r store (fits row)
-    settles (Ok J) (Ok v) h made ok refused = held J v h made (serves.good ok)
+    pub settles : (made : Result IdealValue IdealFault) (r : Result Made CallFault) → IsSettled made r → IfOk made (IsIdealOf G P) → OnOk made accepted → IfErr made R → Tells r row
+    settles (Ok J) (Ok m) h made ok refused = told J m h made (serves.good ok)
     settles (Ok J) (Err e) h made ok refused = no_memory e h
     settles (Err made_of.BadArgument) r h made ok refused =
         let bad = serves.refused refused in
-        subst (λ s. Replies s store (fits row)) (sym h) (inr (bad.0, inl (bad.1, refl)))
+        subst (λ s. Tells s row) (sym h) (inr (bad.0, inl (bad.1, refl)))
     settles (Err made_of.TooLarge) r h made ok refused = elim (serves.large refused) [
-      | inl large ↦ subst (λ s. Replies s store (fits row)) (sym h) (inl (large, refl))
-      | inr past ↦ subst (λ s. Replies s store (fits row)) (sym h) (inr (past.0, inr (past.1, inl (large_generator-none G P past.2, refl))))
+      | inl large ↦ subst (λ s. Tells s row) (sym h) (inl (large, refl))
+      | inr past ↦ subst (λ s. Tells s row) (sym h) (inr (past.0, inr (past.1, inl (large_generator-none G P past.2, refl))))
     ]
-    settles (Err (made_of.Memory e)) r h made ok refused = subst (λ s. Replies s store (fits row)) (sym h) tt
+    settles (Err (made_of.Memory e)) r h made ok refused = subst (λ s. Tells s row) (sym h) tt

@@ -1,27 +1,23 @@
 //! The rows of the commands and operators on relative ideals of numerical semigroups.
 //!
-//! Each answers, over all integers, the minimal list of the ideal that its definition names, or a fact of an ideal, or the
-//! first refusal in the one order of all rows. The rows stand in `specs/`: facts of an ideal (`Facts`), ideals from a list
-//! (`Generated`), from two ideals (`Pairs`), from an integer and an ideal (`Moved`) and from a semigroup (`Own`), and
-//! the operators, which take operands of several kinds (`Operators`).
-//!
-//! The layer above uses: each function answers its row (`Replies`), and known ids go on to stand for what they stood for.
+//! An ideal is seen as the minimal list of its ambient semigroup and its own. `specs/Rows` has the rows, each by its
+//! definition over all integers, `specs/Ideals` the names and which row is whose. The layer above uses: `named` and
+//! `takes` are the table of names; each command and operator tells its row's value or its first refusal (`Tells`).
 #![tactic(auto)]
 
+mod again;
 mod facts;
-mod generated;
+mod generating;
+mod ideals;
 mod membership;
 mod moved;
-mod operators;
-mod own;
 mod pairs;
 mod settling;
-mod taking;
 
-pub use facts::{ambient_of, ideal_generators_of};
-pub use generated::ideal_of_list;
-pub use membership::ideal_member_of;
+pub use again::known_ideal;
+pub use facts::{IdealFact, fact_of};
+pub use generating::generated;
+pub use ideals::{BothIdeal, IdealCommand, TableIdeal, named, takes};
+pub use membership::is_member;
 pub use moved::{multiple_of, translate_of};
-pub use operators::{less_of, plus_of, times_of};
-pub use own::{canonical_of, maximal_of};
-pub use pairs::{difference_of, ideal_intersection_of, sum_of};
+pub use pairs::{Pair, pair_of};

@@ -1,60 +1,40 @@
 //! Ideals from an integer and an ideal.
 
-ghost use Rattle.std.specs.Prelude.{slice_get};
-ghost use Rattle.sg_value.specs.Known.{named};
-ghost use Rattle.sg_value.specs.Plain.{AllKnown, plain};
-ghost use Rattle.sg_store.specs.Interned.{Keeps};
-ghost use Rattle.sg_rows.specs.Replies.{Replies};
-ghost use Rattle.sg_relative.specs.Moved.{multiple_of, translate_of};
+ghost use Rattle.std.specs.Prelude.{◌≡◌};
+ghost use Rattle.sg_relative.specs.Rows.{multiple_row, translate_row, stored};
+ghost use Rattle.sg_rows.specs.Made.{Tells};
 
 use crate::settling::settled;
-use crate::taking::integer_and_ideal;
-use sg_ideal::{multiple, translate};
-use sg_rows::{CallFault, Fault};
-use sg_store::Store;
-use sg_value::Value;
+use sg_apery::Table;
+use sg_ideal::{Ideal, multiple, translate};
+use sg_rows::{CallFault, Fault, Made};
 use std::alloc::Global;
 
-/// A multiple of an ideal by an integer `k`: the sums of `k` members.
-///
-/// WrongType where the arguments are no integer and ideal; BadArgument where the integer is below 1; then TooLarge where
-/// a minimal generator's absolute value is 2^32 or more.
+/// The sums of `factor` members of an ideal over the semigroup of the table.
 pub fn multiple_of(
     alloc: Global,
-    store: &mut Store,
-    k: &Value,
-    a: &Value,
-) -> Result<Value, CallFault>
-    requires { AllKnown (named store.old) a.now }
-    ensures reply { Replies result store.new (multiple_of (plain (named store.old) k.now) (plain (named store.old) a.now)) }
-    ensures keeps { Keeps store.old store.new }
+    factor: i64,
+    table: &Table,
+    ideal: &Ideal,
+) -> Result<Made, CallFault>
+    requires { ideal.now.ambient ≡ table.now }
+    ensures { Tells result (multiple_row factor (stored ideal.now)) }
 {
-    let (factor, ambient, ideal) = integer_and_ideal(alloc, store, k, a)?;
     if factor < 1 {
         return Err(CallFault::Script(Fault::BadArgument));
     }
-    settled(
-        alloc,
-        store,
-        ambient,
-        multiple(alloc, factor as u64, &ideal),
-    )
+    settled(alloc, table, multiple(alloc, factor as u64, ideal))
 }
 
-/// A translate of an ideal: the sums of an integer and a member.
-///
-/// WrongType where the arguments are no integer and ideal; TooLarge where a minimal generator's absolute value is 2^32
-/// or more.
+/// The sums of an integer and a member of an ideal over the semigroup of the table.
 pub fn translate_of(
     alloc: Global,
-    store: &mut Store,
-    x: &Value,
-    a: &Value,
-) -> Result<Value, CallFault>
-    requires { AllKnown (named store.old) a.now }
-    ensures reply { Replies result store.new (translate_of (plain (named store.old) x.now) (plain (named store.old) a.now)) }
-    ensures keeps { Keeps store.old store.new }
+    by: i64,
+    table: &Table,
+    ideal: &Ideal,
+) -> Result<Made, CallFault>
+    requires { ideal.now.ambient ≡ table.now }
+    ensures { Tells result (translate_row by (stored ideal.now)) }
 {
-    let (by, ambient, ideal) = integer_and_ideal(alloc, store, x, a)?;
-    settled(alloc, store, ambient, translate(alloc, by, &ideal))
+    settled(alloc, table, translate(alloc, by, ideal))
 }

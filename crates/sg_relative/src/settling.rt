@@ -1,43 +1,33 @@
-//! An ideal that a call made, as a reply.
+//! An ideal that a call made, as what a row tells.
 
-ghost use Rattle.std.specs.Prelude.{◌≡◌, IfOk, Some, slice_get};
-ghost use Rattle.sg_store.specs.Interned.{Keeps};
-ghost use Rattle.sg_relative.specs.Settled.{IsHeldAs, IsSettled};
+ghost use Rattle.std.specs.Prelude.{◌≡◌, IfOk};
+ghost use Rattle.sg_relative.specs.Settled.{IsIdealMade, IsSettled};
 
+use sg_apery::Table;
 use sg_ideal::{Ideal, IdealFault};
-use sg_rows::{CallFault, Fault};
-use sg_store::Store;
-use sg_value::{SemId, Value};
+use sg_rows::{CallFault, Fault, Made};
 use std::alloc::{AllocError, Global};
 
-/// The id of an ideal of a known semigroup.
-pub(crate) fn held(
-    alloc: Global,
-    store: &mut Store,
-    ambient: SemId,
-    ideal: &Ideal,
-) -> Result<Value, AllocError>
-    requires { slice_get store.old.semigroups ambient ≡ Some ideal.now.ambient }
-    ensures held { IfOk result (IsHeldAs store.new ideal.now) }
-    ensures keeps { Keeps store.old store.new }
+/// The ideal over the semigroup of the table.
+pub(crate) fn held(alloc: Global, table: &Table, ideal: &Ideal) -> Result<Made, AllocError>
+    requires { ideal.now.ambient ≡ table.now }
+    ensures { IfOk result (IsIdealMade ideal.now) }
 {
     let generators = ideal.minimal_generators(alloc)?;
-    Ok(Value::Ideal(store.intern_ideal(ambient, generators)?))
+    Ok(Made::Ideal(table.generators().try_clone()?, generators))
 }
 
-/// The id of the ideal that was made, or the refusal of the call that was to make it.
+/// The ideal that was made over the semigroup of the table, or the refusal of the call that was to make it.
 pub(crate) fn settled(
     alloc: Global,
-    store: &mut Store,
-    ambient: SemId,
+    table: &Table,
     made: Result<Ideal, IdealFault>,
-) -> Result<Value, CallFault>
-    requires { IfOk made (λ ideal. slice_get store.old.semigroups ambient ≡ Some ideal.ambient) }
-    ensures settled { IsSettled made store.new result }
-    ensures keeps { Keeps store.old store.new }
+) -> Result<Made, CallFault>
+    requires { IfOk made (λ ideal. ideal.ambient ≡ table.now) }
+    ensures { IsSettled made result }
 {
     match made {
-        Ok(ideal) => Ok(held(alloc, store, ambient, &ideal)?),
+        Ok(ideal) => Ok(held(alloc, table, &ideal)?),
         Err(IdealFault::BadArgument) => Err(CallFault::Script(Fault::BadArgument)),
         Err(IdealFault::TooLarge) => Err(CallFault::Script(Fault::TooLarge)),
         Err(IdealFault::Memory(error)) => Err(CallFault::Memory(error)),

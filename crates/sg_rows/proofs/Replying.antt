@@ -3,13 +3,12 @@ use Rattle.std.proofs.Common.{◌≡◌, ◌↔◌, ℤ, Bool, true, false, not,
 use Rattle.sg_value.specs.Known.{Known, named}
 use Rattle.std.specs.Prelude.{FitsSigned}
 use Rattle.std.specs.Int.{w64}
-use Rattle.sg_value.specs.Data.{Data, int, truth, text, list, fail, semigroup, ideal, data_map, items_map, EachThing, Kind, semigroups, ideals}
+use Rattle.sg_value.specs.Data.{int, truth, data_map, EachThing}
 use Rattle.sg_value.specs.Plain.{contents, plain, thing_at, IsKnown, Things}
 use Rattle.sg_value.specs.declared.value.Value.{Value}
 use Rattle.sg_value.specs.declared.value.Value.TheVariants as value
-use Rattle.sg_rows.specs.Order.{Plain, Reply, Row, fits, Checks, passed, check, FirstOf, Delivers, IsReply}
-use Rattle.sg_rows.specs.Kinds.{as_integer, as_list, as_semigroup, as_ideal, answers, whether}
-use Rattle.std.specs.Option.{option_map}
+use Rattle.sg_rows.specs.Order.{Plain, Reply, Row, fits, Checks, passed, check, FirstOf, Delivers, IsReply, Passes}
+use Rattle.sg_rows.specs.Values.{answers, whether}
 use Rattle.sg_rows.specs.Replies.{Replies}
 use Rattle.sg_rows.specs.declared.fault.Fault.{Fault}
 use Rattle.sg_rows.specs.declared.fault.Fault.TheVariants.{Overflow, BadArgument, TooLarge, TooMany, Budget}
@@ -24,14 +23,6 @@ contents-Bool b = refl
 
 no : ⊥ → ⊥
 no h = h
-
--- a row that refuses nothing
-pub record Passes (row : Row) : Type 0 where
-  pub size : ¬ row.size
-  pub bad : ¬ row.bad
-  pub limit : ¬ row.limit
-  pub many : ¬ row.many
-  pub budget : ¬ row.budget
 
 pub delivered : (row : Row) (d : Plain) (r : Reply) → Passes row → row.value d → Delivers d r → IsReply (fits row) r
 delivered row d r p h g = inr (p.size, inr (p.bad, inr (p.limit, inr (p.many, inr (p.budget, (d, h, g))))))
@@ -74,43 +65,6 @@ replies_truth store b v P is h = (
 -- a condition of the row that holds first
 pub replies_bad : (store : Known) (row : Row) → (¬ row.size) → row.bad → Replies (Err (Script BadArgument)) store (fits row)
 replies_bad store row small bad = inr (small, inl (bad, refl))
-
--- what is plain is of the same kind
-pub as_integer-plain : {H K : Kind → Type 0} (f : (k : Kind) → H k → K k) (d : Data H) → as_integer (data_map f d) ≡ as_integer d
-as_integer-plain f (int z) = refl
-as_integer-plain f (truth b) = refl
-as_integer-plain f (text bs) = refl
-as_integer-plain f (list ds) = refl
-as_integer-plain f fail = refl
-as_integer-plain f (semigroup h) = refl
-as_integer-plain f (ideal h) = refl
-
-pub as_list-plain : {H K : Kind → Type 0} (f : (k : Kind) → H k → K k) (d : Data H) → as_list (data_map f d) ≡ option_map (items_map f) (as_list d)
-as_list-plain f (int z) = refl
-as_list-plain f (truth b) = refl
-as_list-plain f (text bs) = refl
-as_list-plain f (list ds) = refl
-as_list-plain f fail = refl
-as_list-plain f (semigroup h) = refl
-as_list-plain f (ideal h) = refl
-
-pub as_semigroup-plain : {H K : Kind → Type 0} (f : (k : Kind) → H k → K k) (d : Data H) → as_semigroup (data_map f d) ≡ option_map (f semigroups) (as_semigroup d)
-as_semigroup-plain f (int z) = refl
-as_semigroup-plain f (truth b) = refl
-as_semigroup-plain f (text bs) = refl
-as_semigroup-plain f (list ds) = refl
-as_semigroup-plain f fail = refl
-as_semigroup-plain f (semigroup h) = refl
-as_semigroup-plain f (ideal h) = refl
-
-pub as_ideal-plain : {H K : Kind → Type 0} (f : (k : Kind) → H k → K k) (d : Data H) → as_ideal (data_map f d) ≡ option_map (f ideals) (as_ideal d)
-as_ideal-plain f (int z) = refl
-as_ideal-plain f (truth b) = refl
-as_ideal-plain f (text bs) = refl
-as_ideal-plain f (list ds) = refl
-as_ideal-plain f fail = refl
-as_ideal-plain f (semigroup h) = refl
-as_ideal-plain f (ideal h) = refl
 
 -- a test turned round
 pub decides_not : (b : Bool) (P : Type 0) → (IsTrue b ↔ P) → IsTrue (not b) ↔ (P → ⊥)

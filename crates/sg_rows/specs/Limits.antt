@@ -3,7 +3,7 @@ use Rattle.std.specs.Prelude.{ℕ, ◌<◌, ◌≤◌, List}
 use Rattle.sg_apery.specs.Fit.{IsSpan}
 use Rattle.sg_apery.specs.Limits.{SPAN_LIMIT}
 use Rattle.sg_rows.specs.Order.{Plain, Row}
-use Rattle.sg_rows.specs.Kinds.{answers}
+use Rattle.sg_rows.specs.Values.{answers}
 
 -- the Frobenius number, the multiplicity and the greatest generator together pass the limit
 abbrev pub IsWide : List ℕ → Type 0

@@ -1,5 +1,3 @@
-pub mod Closed
-pub mod Naming
-pub mod Stored
+pub mod Parts
 pub mod OneShape
 pub mod SomeShape

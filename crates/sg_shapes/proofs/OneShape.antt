@@ -1,46 +1,29 @@
--- The rows on shapes have one value.
+-- The rows on shapes have at most one value.
 use Rattle.std.proofs.Common.{◌≡◌, ◌<◌, ℕ, ℤ, List, [], ◌∷◌, length, reverse, inl, inr, refl, ap, sym, ◌∙◌, subst, arith}
 use Rattle.std.specs.List.{AllZip}
 use Rattle.sg_defs.specs.Membership.{IsMember, IsMinimal, Generates}
 use Rattle.sg_defs.specs.Invariants.{IsSpecialGap}
 use Rattle.sg_defs.specs.Symmetry.{IsSymmetric, IsPseudoSymmetric, IsIrreducible}
-use Rattle.sg_defs.specs.Closures.{IsArf, IsMed, IsSaturated, IsLeast, IsArfClosure, IsMedClosure, IsSaturatedClosure}
+use Rattle.sg_defs.specs.Closures.{IsArf, IsMed, IsSaturated, IsLeast}
 use Rattle.sg_defs.specs.Decomposition.{IsInCover, IsChosen, IsDecomposition}
 use Rattle.sg_apery.proofs.OneListLemmas.{one-minimal_list}
-use Rattle.sg_value.specs.Data.{semigroup}
-use Rattle.sg_rows.specs.Order.{Plain, fits}
-use Rattle.sg_rows.specs.Kinds.{given, as_semigroup, answers, whether}
-use Rattle.sg_rows.specs.Limits.{spanned}
-use Rattle.sg_rows.specs.Listed.{semigroups_with}
-use Rattle.sg_rows.proofs.OneValue.{One, OneValue, given_one, whether_one}
+use Rattle.sg_value.specs.Data.{semigroup, Items}
+use Rattle.sg_value.specs.Plain.{Things}
+use Rattle.sg_rows.proofs.FormLaws.{of_semigroup_one}
 use Rattle.sg_rows.proofs.OneListed.{semigroups_one, lists_integers_one}
-use Rattle.sg_shapes.specs.Symmetry.{is_symmetric_of, is_pseudo_symmetric_of, is_irreducible_of, is_med_of}
-use Rattle.sg_shapes.specs.Closures.{is_arf_of, is_saturated_of, closure, arf_closure_of, med_closure_of, saturated_closure_of}
-use Rattle.sg_shapes.specs.Decompositions.{decompose_into_irreducibles_of}
-
-test_one : (P : List ℕ → Type 0) (a : Plain) → OneValue (given (as_semigroup a) (λ G. fits (answers (whether (P G)))))
-test_one P a = given_one (as_semigroup a) (λ G. fits (answers (whether (P G)))) (λ G. whether_one (P G))
-
-pub is_symmetric_one : (a : Plain) → OneValue (is_symmetric_of a)
-is_symmetric_one a = test_one IsSymmetric a
-
-pub is_pseudo_symmetric_one : (a : Plain) → OneValue (is_pseudo_symmetric_of a)
-is_pseudo_symmetric_one a = test_one IsPseudoSymmetric a
-
-pub is_irreducible_one : (a : Plain) → OneValue (is_irreducible_of a)
-is_irreducible_one a = test_one IsIrreducible a
-
-pub is_med_one : (a : Plain) → OneValue (is_med_of a)
-is_med_one a = test_one IsMed a
-
-spanned_test_one : (P : List ℕ → Type 0) (a : Plain) → OneValue (given (as_semigroup a) (λ G. fits (spanned G (whether (P G)))))
-spanned_test_one P a = given_one (as_semigroup a) (λ G. fits (spanned G (whether (P G)))) (λ G. whether_one (P G))
-
-pub is_arf_one : (a : Plain) → OneValue (is_arf_of a)
-is_arf_one a = spanned_test_one IsArf a
-
-pub is_saturated_one : (a : Plain) → OneValue (is_saturated_of a)
-is_saturated_one a = spanned_test_one IsSaturated a
+use Rattle.sg_rows.proofs.OneValue.{One, OneValue, whether_one}
+use Rattle.sg_shapes.specs.Closures.{IsClosure}
+use Rattle.sg_shapes.specs.Shapes.{generators_row, table_row, closure_row, decomposition_row, case_of}
+use Rattle.sg_shapes.specs.declared.shape.Shape.{Shape}
+use Rattle.sg_shapes.specs.declared.shape.Shape.TheVariants as shape
+use Rattle.sg_shapes.specs.declared.shape.GeneratorsTest.{GeneratorsTest}
+use Rattle.sg_shapes.specs.declared.shape.GeneratorsTest.TheVariants.{IsMED}
+use Rattle.sg_shapes.specs.declared.shape.TableTest.{TableTest}
+use Rattle.sg_shapes.specs.declared.shape.TableTest.TheVariants as test
+use Rattle.sg_shapes.specs.declared.shape.Closure.{Closure}
+use Rattle.sg_shapes.specs.declared.shape.Closure.TheVariants.{Arf, Med, Saturated}
+use Rattle.sg_shapes.specs.declared.shape.Decomposition.{Decomposition}
+use Rattle.sg_shapes.specs.declared.shape.Decomposition.TheVariants.{IntoIrreducibles}
 
 -- two least semigroups with P hold one another
 one-least : (P : List ℕ → Type 0) (G H K : List ℕ) → IsMinimal H → IsMinimal K → IsLeast P G H → IsLeast P G K → H ≡ K
@@ -52,17 +35,10 @@ one-least P G H K minimal_h minimal_k a b = one-minimal_list (IsMember H) H K fi
     second : Generates (IsMember H) K
     second = record { semigroup = b.semigroup; minimal = minimal_k; same = λ n. (a.least K b.semigroup b.has b.holds n, b.least H a.semigroup a.has a.holds n) }
 
-closure_one : (P : List ℕ → List ℕ → Type 0) → ((G H K : List ℕ) → IsMinimal H → IsMinimal K → P G H → P G K → H ≡ K) → (a : Plain) → OneValue (given (as_semigroup a) (λ G. fits (closure G (P G))))
-closure_one P one a = given_one (as_semigroup a) (λ G. fits (closure G (P G))) (λ G d e p q. p.1 ∙ (ap semigroup (one G p.0 q.0 p.2 q.2 p.3 q.3) ∙ sym q.1))
-
-pub arf_closure_one : (a : Plain) → OneValue (arf_closure_of a)
-arf_closure_one a = closure_one IsArfClosure (λ G H K p q h k. one-least IsArf G H K p q h k) a
-
-pub med_closure_one : (a : Plain) → OneValue (med_closure_of a)
-med_closure_one a = closure_one IsMedClosure (λ G H K p q h k. one-least _ G H K p q h k) a
-
-pub saturated_closure_one : (a : Plain) → OneValue (saturated_closure_of a)
-saturated_closure_one a = closure_one IsSaturatedClosure (λ G H K p q h k. one-least IsSaturated G H K p q h k) a
+one-closure : (c : Closure) (G H K : List ℕ) → IsMinimal H → IsMinimal K → IsClosure c G H → IsClosure c G K → H ≡ K
+one-closure Arf G H K p q h k = one-least IsArf G H K p q h k
+one-closure Med G H K p q h k = one-least _ G H K p q h k
+one-closure Saturated G H K p q h k = one-least IsSaturated G H K p q h k
 
 -- the choice is determined
 one-chosen : (G : List ℕ) (before hs : List ℤ) → One (IsChosen G before hs)
@@ -98,5 +74,26 @@ one-decomposition G K L a b = by a.special refl
         let some : 0 < length a.special = subst (λ l. 0 < length l) e (omega arith) in
         one-covers G a.chosen K L (a.covers some) (subst (λ l. AllZip (λ h M. Generates (IsInCover G h) M) l L) chosen (b.covers (subst (λ l. 0 < length l) (sym special) some)))
 
-pub decompose_into_irreducibles_one : (a : Plain) → OneValue (decompose_into_irreducibles_of a)
-decompose_into_irreducibles_one a = given_one (as_semigroup a) (λ G. fits (spanned G (semigroups_with (IsDecomposition G)))) (λ G. semigroups_one (IsDecomposition G) (one-decomposition G))
+-- ---- the rows
+
+generators_one : (t : GeneratorsTest) (G : List ℕ) → One (generators_row t G).value
+generators_one IsMED G = whether_one (IsMed G)
+
+table_one : (t : TableTest) (G : List ℕ) → One (table_row t G).value
+table_one test.IsArf G = whether_one (IsArf G)
+table_one test.IsIrreducible G = whether_one (IsIrreducible G)
+table_one test.IsPseudoSymmetric G = whether_one (IsPseudoSymmetric G)
+table_one test.IsSaturated G = whether_one (IsSaturated G)
+table_one test.IsSymmetric G = whether_one (IsSymmetric G)
+
+closure_one : (c : Closure) (G : List ℕ) → One (closure_row c G).value
+closure_one c G d e p q = p.1 ∙ (ap semigroup (one-closure c G p.0 q.0 p.2 q.2 p.3 q.3) ∙ sym q.1)
+
+decomposition_one : (p : Decomposition) (G : List ℕ) → One (decomposition_row p G).value
+decomposition_one IntoIrreducibles G = semigroups_one (IsDecomposition G) (one-decomposition G)
+
+pub shape_one : (s : Shape) (args : Items Things) → OneValue (case_of s args)
+shape_one (shape.TestOfGenerators t) = of_semigroup_one (generators_row t) (generators_one t)
+shape_one (shape.TestOfTable t) = of_semigroup_one (table_row t) (table_one t)
+shape_one (shape.Closure c) = of_semigroup_one (closure_row c) (closure_one c)
+shape_one (shape.Decomposition p) = of_semigroup_one (decomposition_row p) (decomposition_one p)

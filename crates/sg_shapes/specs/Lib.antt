@@ -1,3 +1,2 @@
-pub mod Symmetry
 pub mod Closures
-pub mod Decompositions
+pub mod Shapes

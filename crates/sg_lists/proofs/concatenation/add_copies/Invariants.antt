@@ -1,6 +1,6 @@
 use Rattle.std.proofs.Common.{◌≡◌, drop}
 use Rattle.sg_value.specs.Plain.{contents_of_all}
-use Rattle.sg_rows.specs.Words.{join}
+use Rattle.sg_value.specs.Data.{join}
 use Rattle.sg_lists.proofs.concatenation.add_copies.Given as goal
 
 -- the copies so far and the entries to come are the first copies and all entries

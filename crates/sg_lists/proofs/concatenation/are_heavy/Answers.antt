@@ -1,13 +1,13 @@
 use Rattle.std.proofs.Common.{◌<◌, ◌^◌, length, arith, rules}
 use Rattle.sg_value.specs.Data.{item}
 use Rattle.sg_value.specs.Plain.{contents, contents_of_all}
-use Rattle.sg_lists.proofs.Joining.{weight-joined, entry_count-contents}
+use Rattle.sg_lists.proofs.Joining.{weight-concatenated, entry_count-contents}
 use Rattle.sg_lists.proofs.concatenation.are_heavy.Goals as goal
 
 pub returns : goal.returns
 returns c = λ ds is.
     let vs = c.args.others.now in
-    let whole = weight-joined (item (contents c.args.value.now) (contents_of_all vs)) ds is in
+    let whole = weight-concatenated (item (contents c.args.value.now) (contents_of_all vs)) ds is in
     let count = entry_count-contents vs in
     let few : length vs < 2 ^ 63 = search rules in
     let first = c.weight.ensures in

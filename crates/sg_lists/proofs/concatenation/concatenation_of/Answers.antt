@@ -1,7 +1,7 @@
 use Rattle.std.proofs.Common.{Ok, Err, ap, ◌∙◌}
 use Rattle.sg_value.specs.Known.{named}
 use Rattle.sg_value.specs.Plain.{contents_of_all, plain_of_all}
-use Rattle.sg_lists.specs.Lists.{concatenation_of}
+use Rattle.sg_lists.specs.Concatenations.{concatenation_of}
 use Rattle.sg_lists.proofs.Concatenations.{of_copy, of_none, of_fault}
 use Rattle.sg_lists.proofs.concatenation.concatenation_of.Goals as goal
 

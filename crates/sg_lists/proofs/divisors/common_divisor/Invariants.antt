@@ -1,5 +1,5 @@
 use Rattle.std.proofs.Common.{ℕ, pos, drop, ◌∷◌}
-use Rattle.sg_lists.specs.Words.{IsGcdOfAll}
+use Rattle.sg_lists.specs.Integers.{IsGcdOfAll}
 use Rattle.sg_lists.proofs.divisors.common_divisor.Given as goal
 
 -- the divisor so far and the entries to come have the greatest common divisor of all

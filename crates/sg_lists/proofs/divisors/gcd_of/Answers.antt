@@ -1,13 +1,12 @@
-use Rattle.std.proofs.Common.{subst}
-use Rattle.sg_rows.specs.Replies.{Replies}
-use Rattle.sg_rows.proofs.Spreading.{not_spread, of_spread}
-use Rattle.sg_lists.specs.Lists.{gcd_of}
+use Rattle.std.proofs.Common.{◌≡◌, ◌<◌, ◌^◌, pos, [], refl, rules}
+use Rattle.sg_lists.specs.Integers.{IsGcdOfAll}
+use Rattle.sg_lists.proofs.Numbers.{number_told}
 use Rattle.sg_lists.proofs.divisors.gcd_of.Goals as goal
 
-pub returns-in_err-zs : goal.returns-in_err-zs
-returns-in_err-zs c = λ store. not_spread store c.args.args.now gcd_of c.from_residual.result c.in_err-zs.field-0.0 c.from_residual.ensures.1 c.in_err-zs.ensures.err
-
 pub returns : goal.returns
-returns c = λ store.
-    of_spread store c.args.args.now gcd_of c.gcd_of_integers.result c.in_ok-zs.zs c.in_ok-zs.ensures.ok
-    (subst (λ zs. Replies c.gcd_of_integers.result store (gcd_of zs)) c.as_slice.ensures (c.gcd_of_integers.ensures store))
+returns c =
+    let zs = c.args.zs.now in
+    let g = c.common_divisor.result in
+    let small : g < 2 ^ 64 = search rules in
+    let some : zs ≡ [] → ⊥ = λ e. search rules in
+    number_told (IsGcdOfAll zs) zs g c.integer.result some c.common_divisor.ensures (c.integer.ensures (pos g) (c.signed.ensures g (small, refl)))

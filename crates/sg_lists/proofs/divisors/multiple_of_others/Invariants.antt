@@ -1,5 +1,5 @@
 use Rattle.std.proofs.Common.{ℕ, ◌<◌, ◌^◌, pos, drop, ◌∷◌}
-use Rattle.sg_lists.specs.Words.{IsLcmOfAll}
+use Rattle.sg_lists.specs.Integers.{IsLcmOfAll}
 use Rattle.sg_lists.proofs.divisors.multiple_of_others.Given as goal
 
 -- the multiple so far and the entries to come have the least common multiple of all

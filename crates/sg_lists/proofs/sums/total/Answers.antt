@@ -2,7 +2,7 @@ use Rattle.std.proofs.Common.{◌≡◌, ℕ, ◌+◌, ◌<◌, drop, pos, ◌+�
 use Rattle.std.proofs.lemmas.Int.{ints}
 use Rattle.std.proofs.lemmas.List.{at_drop_more}
 use mir.Syntax.{w128}
-use Rattle.sg_lists.specs.Words.{total}
+use Rattle.sg_lists.specs.Integers.{total}
 use Rattle.sg_lists.proofs.sums.total.Goals as goal
 
 -- one entry more

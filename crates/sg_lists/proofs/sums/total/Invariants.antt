@@ -1,5 +1,5 @@
 use Rattle.std.proofs.Common.{◌≡◌, ◌*◌, ◌^◌, drop, pos, ◌+ℤ◌, neg_ℤ, ◌≤ℤ◌}
-use Rattle.sg_lists.specs.Words.{total}
+use Rattle.sg_lists.specs.Integers.{total}
 use Rattle.sg_lists.proofs.sums.total.Given as goal
 
 -- with the entries to come, the sum is that of all; it is small
