@@ -16,7 +16,7 @@ use Rattle.sg_rows.specs.Replies.{Replies}
 use Rattle.sg_rows.specs.declared.fault.CallFault.{CallFault}
 use Rattle.sg_rows.specs.declared.fault.CallFault.TheVariants.{Script}
 use Rattle.sg_rows.specs.declared.fault.Fault.TheVariants.{UnknownName, WrongCount}
-use Rattle.sg_lists.specs.Lists.{concatenation_of, left_in}
+use Rattle.sg_lists.specs.Concatenations.{concatenation_of, left_in}
 use Rattle.sg_calls.specs.Answers.{case_of}
 use Rattle.sg_calls.specs.Commands.{checked, command_named}
 use Rattle.sg_tree.specs.Tree.{Tree, Arguments, argument, call, variable, plain as plain_argument}

@@ -3,7 +3,8 @@ use Rattle.std.proofs.lemmas.List.{drop_all}
 use Rattle.sg_value.specs.Plain.{contents_of_all}
 use Rattle.sg_value.specs.Data.{join}
 use Rattle.sg_rows.proofs.EntryLemmas.{contents_of_all-drop}
-use Rattle.sg_lists.proofs.Joining.{join-none, copied_more}
+use Rattle.sg_value.proofs.Joins.{join-none}
+use Rattle.sg_lists.proofs.Joining.{copied_more}
 use Rattle.sg_lists.proofs.concatenation.add_copies.Goals as goal
 
 pub loop-entry-preserved : goal.loop-entry-preserved
