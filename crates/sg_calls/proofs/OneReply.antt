@@ -88,7 +88,8 @@ sign_one a = reply_one (negation a) (fitted_one (as_integer a) _ (λ x. is_one _
 
 -- ---- commands
 
-row_one : (c : Command) (args : Items Things) → OneValue (row c args)
+-- the row of a command has at most one value
+pub row_one : (c : Command) (args : Items Things) → OneValue (row c args)
 row_one (Lists c) args = list_one c args
 row_one (Makers c) args = maker_one c args
 row_one (Facts c) args = fact_one c args

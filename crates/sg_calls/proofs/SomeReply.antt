@@ -98,7 +98,8 @@ sign_some a = reply_some (negation a) (fitted_some (λ x. ⊤) (as_integer a) _ 
 
 -- ---- commands
 
-row_some : (c : Command) (args : Items Things) → AreLawful args → SomeValue (row c args)
+-- the row of a command has a value
+pub row_some : (c : Command) (args : Items Things) → AreLawful args → SomeValue (row c args)
 row_some (Lists c) args l = list_some c args l
 row_some (Makers c) args l = maker_some c args l
 row_some (Facts c) args l = fact_some c args l
