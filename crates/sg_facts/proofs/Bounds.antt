@@ -6,7 +6,7 @@ use Rattle.sg_defs.specs.Listings.{Lists}
 use Rattle.sg_apery.specs.Fit.{IsFit}
 use Rattle.sg_apery.specs.Limits.{APERY_ENTRY_LIMIT}
 use Rattle.sg_apery.proofs.GeneratorLemmas.{place-contains}
-use Rattle.sg_rows.specs.Limits.{IsShort}
+use Rattle.sg_lawful.specs.Spans.{IsShort}
 use Rattle.sg_rows.proofs.Telling.{AreWithinBits}
 use Rattle.sg_facts.proofs.Counting.{gap-within, conductor-within}
 

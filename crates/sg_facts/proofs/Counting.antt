@@ -11,7 +11,7 @@ use Rattle.sg_apery.proofs.OneListLemmas.{one-list}
 use Rattle.sg_invar.proofs.ListingLemmas.{ListsBelow, lists-none, lists-skip, lists-push, lists-same, lists-all}
 use Rattle.sg_invar.proofs.GapLemmas.{gap-below_conductor}
 use Rattle.sg_invar.proofs.PseudoFrobeniusLemmas.{outside-below}
-use Rattle.sg_rows.specs.Limits.{IsShort}
+use Rattle.sg_lawful.specs.Spans.{IsShort}
 use Rattle.sg_defs.proofs.OneLemmas.{one-frobenius}
 
 -- the members and the gaps below n

@@ -2,12 +2,11 @@
 
 ghost use Rattle.std.specs.Prelude.{◌≡◌, ◌<◌, ◌≤◌, ◌-◌, ◌^◌, ◌↔◌, ℕ, List, Some, IsSome, IsTrue, IfOk, OnOk, OnErr, ◌∷◌, min, slice_get};
 ghost use Rattle.sg_value.specs.Known.{Known, named};
-ghost use Rattle.sg_value.specs.Data.{Items, item, list, weight_of_all, depth_of_all};
+ghost use Rattle.sg_value.specs.Data.{Items, item, list, join, weight_of_all, depth_of_all};
 ghost use Rattle.sg_value.specs.Plain.{AllKnownIn, contents, contents_of_all, plain_of_all, Places};
+ghost use Rattle.sg_value.specs.declared.limits.TheConstants.{WEIGHT_LIMIT};
 ghost use Rattle.sg_rows.specs.Kinds.{as_list};
-ghost use Rattle.sg_value.specs.Data.{join};
-ghost use Rattle.sg_lists.specs.Concatenations.{concatenated};
-ghost use Rattle.sg_lists.specs.Concatenations.{concatenation_of, left_in};
+ghost use Rattle.sg_lists.specs.Concatenations.{concatenated, concatenation_of, left_in};
 ghost use Rattle.sg_rows.specs.Replies.{Replies};
 
 use sg_rows::{CallFault, Fault, entries_of, is_heavy};

@@ -8,6 +8,7 @@ use mir.Val.{to_z, of_z}
 use Rattle.sg_defs.specs.Membership.{IsIntegerMember}
 use Rattle.sg_apery.specs.Conditions.{IsInBoth, IsInQuotient, IsQuotientRefused}
 use Rattle.sg_apery.specs.Fit.{IsSizeFault}
+use Rattle.sg_rows.proofs.Signed.{not_below}
 use Rattle.sg_makers.proofs.Serving.{Serves, unfit}
 
 pub intersection_serves : (G H : List ℕ) → Serves (IsInBoth G H) (IsInBoth G H) (Unit {0}) (IsSizeFault (IsInBoth G H)) ⊥ ⊥
@@ -18,9 +19,6 @@ intersection_serves G H = record {
   refused = λ n. n;
   large = λ t. ((λ n. n), unfit (IsInBoth G H) (IsInBoth G H) (λ n. ((λ h. h), (λ h. h))) t);
 }
-
-not_below : (a b : ℤ) → lt_z a b ≡ false → b ≤ℤ a
-not_below a b h = grind (arith, ints)
 
 abbrev QuotientServes : List ℕ → ℤ → ℕ → Type 0
 QuotientServes G d m = Serves (λ n. IsIntegerMember G (d *ℤ pos n)) (IsInQuotient G m) (0 < m) (IsQuotientRefused G m) ⊥ (d <ℤ pos 1)

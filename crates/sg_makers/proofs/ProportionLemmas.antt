@@ -7,10 +7,8 @@ use lib.Signed.{lt_z}
 use mir.Val.{to_z, of_z}
 use Rattle.sg_apery.specs.Modular.{AreModular, IsModular, IsModularRefused, IsProportional, IsProportionalRefused}
 use Rattle.sg_apery.specs.Limits.{MODULUS_LIMIT}
+use Rattle.sg_rows.proofs.Signed.{not_below}
 use Rattle.sg_makers.proofs.Serving.{Serves, unfit}
-
-not_less : (a b : ℤ) → lt_z a b ≡ false → b ≤ℤ a
-not_less a b h = grind (arith, ints)
 
 not_zero : (z : ℤ) → pos 1 ≤ℤ z → nat_abs z ≡ 0 → ⊥
 not_zero (pos n) from e = omega (arith, ints, from, e)
@@ -28,10 +26,10 @@ abbrev pub seen : ℤ → ℤ
 seen z = to_z w64 (of_z w64 z)
 
 from_one : (z : ℤ) → FitsSigned w64 z → lt_z (seen z) (pos 1) ≡ false → pos 1 ≤ℤ z
-from_one z fit h = not_less z (pos 1) (subst (λ y. lt_z y (pos 1) ≡ false) (to_z-of_z w64 z fit) h)
+from_one z fit h = not_below z (pos 1) (subst (λ y. lt_z y (pos 1) ≡ false) (to_z-of_z w64 z fit) h)
 
 up_to_limit : (z : ℤ) → FitsSigned w64 z → lt_z (pos MODULUS_LIMIT) (seen z) ≡ false → z ≤ℤ pos MODULUS_LIMIT
-up_to_limit z fit h = not_less (pos MODULUS_LIMIT) z (subst (λ y. lt_z (pos MODULUS_LIMIT) y ≡ false) (to_z-of_z w64 z fit) h)
+up_to_limit z fit h = not_below (pos MODULUS_LIMIT) z (subst (λ y. lt_z (pos MODULUS_LIMIT) y ≡ false) (to_z-of_z w64 z fit) h)
 
 module _ (a b : ℤ) (fa : FitsSigned w64 a) (fb : FitsSigned w64 b) (upto : lt_z (pos MODULUS_LIMIT) (seen b) ≡ false) (pa : lt_z (seen a) (pos 1) ≡ false) (pb : lt_z (seen b) (pos 1) ≡ false) where
   abbrev ModularServes : ℕ → ℕ → Type 0

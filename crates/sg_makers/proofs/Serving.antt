@@ -25,11 +25,6 @@ unfit P Q same past G generated fit =
     let large = too_large-iff P Q same past in
     past_unfit large.0 (subst IsFit (one-minimal_list P G large.0 generated large.1) fit) large.2
 
--- no condition on arguments
-pub always : {A E : Type 0} (r : Result A E) → OnOk r (Unit {0})
-always (Ok a) = tt
-always (Err e) = tt
-
 -- how a constructor of the naturals with Q serves a row of the naturals with P: R says when it refuses
 pub record Serves (P Q : ℕ → Type 0) (accepted : Type 0) (R : TableFault → Type 0) (size bad : Type 0) : Type 0 where
   pub small : ¬ size

@@ -9,7 +9,6 @@ mod derived;
 mod entries;
 mod from_integers;
 mod maker;
-
 mod proportions;
 mod settling;
 

@@ -2,7 +2,7 @@
 use Rattle.std.proofs.Common.{◌≡◌, ℕ, ℤ, List, ap, sym, ◌∙◌}
 use Rattle.std.specs.Prelude.{unsigned_abs}
 use Rattle.sg_defs.specs.Ideals.{IsIdealMember, IsInMultiple, IsInTranslate, IsInCanonical, IsInMaximal}
-use Rattle.sg_ideal.specs.Value.{GeneratesIdeal}
+use Rattle.sg_ideal.specs.Value.{GeneratesIdeal, IsIn}
 use Rattle.sg_generated.proofs.OneIdeal.{one-minimal_ideal}
 use Rattle.sg_value.specs.Data.{ideal, semigroup, Items}
 use Rattle.sg_value.specs.Plain.{Things, RelativeIdeal}
@@ -11,7 +11,7 @@ use Rattle.sg_rows.specs.Forms.{on_two_ideals, on_integer_and_ideal, on_list_and
 use Rattle.sg_rows.specs.Values.{integer_list}
 use Rattle.sg_rows.proofs.FormLaws.{of_semigroup_one, of_ideal_one, of_two_ideals_one, of_list_then_semigroup_one, on_two_ideals_one, on_integer_and_ideal_one, on_list_and_semigroup_one}
 use Rattle.sg_rows.proofs.OneValue.{One, OneValue, is_one, whether_one}
-use Rattle.sg_relative.specs.Rows.{an_ideal, fact_row, generated_row, member_row, InPair, members, multiple_row, over, pair_row, translate_row}
+use Rattle.sg_relative.specs.Rows.{an_ideal, fact_row, generated_row, member_row, InPair, multiple_row, over, pair_row, translate_row}
 use Rattle.sg_relative.specs.Ideals.{table_row, both_row, case_of}
 use Rattle.sg_relative.specs.declared.facts.IdealFact.{IdealFact}
 use Rattle.sg_relative.specs.declared.facts.IdealFact.TheVariants.{Ambient, Generators}
@@ -40,19 +40,19 @@ both_one Canonical G = an_ideal_one G (IsInCanonical G)
 -- ---- operators
 
 pub pair_one : (p : Pair) (a b : Plain) → OneValue (on_two_ideals a b (pair_row p))
-pair_one p = on_two_ideals_one (pair_row p) (λ I J. an_ideal_one I.ambient (InPair p (members I) (members J)))
+pair_one p = on_two_ideals_one (pair_row p) (λ I J. an_ideal_one I.ambient (InPair p (IsIn I) (IsIn J)))
 
 pub generated_one : (a b : Plain) → OneValue (on_list_and_semigroup a b generated_row)
 generated_one = on_list_and_semigroup_one generated_row (λ zs G. an_ideal_one G (IsIdealMember G zs))
 
 pub multiple_one : (a b : Plain) → OneValue (on_integer_and_ideal a b multiple_row)
-multiple_one = on_integer_and_ideal_one multiple_row (λ k I. an_ideal_one I.ambient (IsInMultiple (unsigned_abs k) (members I)))
+multiple_one = on_integer_and_ideal_one multiple_row (λ k I. an_ideal_one I.ambient (IsInMultiple (unsigned_abs k) (IsIn I)))
 
 pub translate_one : (a b : Plain) → OneValue (on_integer_and_ideal a b translate_row)
-translate_one = on_integer_and_ideal_one translate_row (λ x I. an_ideal_one I.ambient (IsInTranslate x (members I)))
+translate_one = on_integer_and_ideal_one translate_row (λ x I. an_ideal_one I.ambient (IsInTranslate x (IsIn I)))
 
 pub member_one : (a b : Plain) → OneValue (on_integer_and_ideal a b member_row)
-member_one = on_integer_and_ideal_one member_row (λ x I. whether_one (members I x))
+member_one = on_integer_and_ideal_one member_row (λ x I. whether_one (IsIn I x))
 
 -- ---- commands
 
@@ -61,4 +61,4 @@ ideal_one (OfIdeal f) args = of_ideal_one (fact_row f) (fact_one f) args
 ideal_one (OfTable i) args = of_semigroup_one (table_row i) (table_one i) args
 ideal_one (OfBoth i) args = of_semigroup_one (both_row i) (both_one i) args
 ideal_one Generated args = of_list_then_semigroup_one generated_row (λ zs G. an_ideal_one G (IsIdealMember G zs)) args
-ideal_one (OfTwoIdeals p) args = of_two_ideals_one (pair_row p) (λ I J. an_ideal_one I.ambient (InPair p (members I) (members J))) args
+ideal_one (OfTwoIdeals p) args = of_two_ideals_one (pair_row p) (λ I J. an_ideal_one I.ambient (InPair p (IsIn I) (IsIn J))) args

@@ -3,11 +3,12 @@ use Rattle.std.proofs.Common.{◌≡◌, ℕ, ℤ, pos, negsuc, List, false, inl
 use Rattle.std.specs.Prelude.{◌<ℤ◌, ◌≤ℤ◌, ◌<◌, ◌≢◌, [], length, unsigned_abs}
 use Rattle.std.proofs.lemmas.Int.{ints}
 use lib.Signed.{lt_z}
-use Rattle.sg_defs.specs.Ideals.{IsIdealMember, IsInMultiple}
+use Rattle.sg_defs.specs.Ideals.{IsIdealMember, IsInMultiple, RelativeIdeal}
 use Rattle.sg_ideal.specs.Faults.{AreRefused, IsMultipleRefused, IsPairRefused, IsSizeFault}
-use Rattle.sg_ideal.specs.Value.{IdealValue, IsIn}
+use Rattle.sg_ideal.specs.Value.{IsIn}
 use Rattle.sg_lawful.specs.Generators.{AreSmall}
 use Rattle.sg_generated.proofs.SizeDecisions.{large-small}
+use Rattle.sg_rows.proofs.Signed.{not_below}
 use Rattle.sg_relative.proofs.Serving.{Serves}
 
 -- generators that are given
@@ -19,7 +20,7 @@ generated_serves G zs = record {
 }
 
 -- two ideals
-pub pair_serves : (I J : IdealValue) (P : ℤ → Type 0) → Serves I.ambient P (I.ambient ≡ J.ambient) (IsPairRefused I J P) ⊥ (I.ambient ≢ J.ambient)
+pub pair_serves : (I J : RelativeIdeal) (P : ℤ → Type 0) → Serves I.ambient P (I.ambient ≡ J.ambient) (IsPairRefused I J P) ⊥ (I.ambient ≢ J.ambient)
 pair_serves I J P = record {
   good = λ e. ((λ n. n), (λ differ. differ e));
   refused = λ differ. ((λ n. n), differ);
@@ -34,14 +35,11 @@ own_serves G P = record {
   large = λ h. inr ((λ n. n), (λ n. n), h);
 }
 
-not_below : (a b : ℤ) → lt_z a b ≡ false → b ≤ℤ a
-not_below a b h = grind (arith, ints)
-
 -- a multiple by an integer that is not below 1
-abbrev MultipleServes : (I : IdealValue) → ℤ → Type 0
+abbrev MultipleServes : (I : RelativeIdeal) → ℤ → Type 0
 MultipleServes I k = Serves I.ambient (IsInMultiple (unsigned_abs k) (IsIn I)) (0 < unsigned_abs k) (IsMultipleRefused (unsigned_abs k) I.ambient (IsInMultiple (unsigned_abs k) (IsIn I))) ⊥ (k <ℤ pos 1)
 
-serves_above : (I : IdealValue) (k : ℤ) → pos 1 ≤ℤ k → MultipleServes I k
+serves_above : (I : RelativeIdeal) (k : ℤ) → pos 1 ≤ℤ k → MultipleServes I k
 serves_above I (pos m) from = record {
   good = λ positive. ((λ n. n), (λ below. omega (arith, ints, from, below)));
   refused = λ e. absurd (omega (arith, ints, from, e));
@@ -49,5 +47,5 @@ serves_above I (pos m) from = record {
 }
 serves_above I (negsuc m) from = absurd (omega (arith, ints, from))
 
-pub multiple_serves : (I : IdealValue) (k : ℤ) → lt_z k (pos 1) ≡ false → MultipleServes I k
+pub multiple_serves : (I : RelativeIdeal) (k : ℤ) → lt_z k (pos 1) ≡ false → MultipleServes I k
 multiple_serves I k h = serves_above I k (not_below k (pos 1) h)

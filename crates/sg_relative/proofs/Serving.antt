@@ -1,7 +1,8 @@
 -- Ideals that calls made, as what rows tell.
 use Rattle.std.proofs.Common.{ℕ, ℤ, List, Result, Ok, Err, inl, inr, refl, ap, sym, subst}
 use Rattle.std.specs.Prelude.{IfOk, IfErr, OnOk, ◌⊎◌}
-use Rattle.sg_ideal.specs.Value.{HasLargeGenerator, IdealValue, IsIdealOf}
+use Rattle.sg_defs.specs.Ideals.{RelativeIdeal}
+use Rattle.sg_ideal.specs.Value.{HasLargeGenerator, IsIdealOf}
 use Rattle.sg_ideal.specs.declared.fault.IdealFault.{IdealFault}
 use Rattle.sg_ideal.specs.declared.fault.IdealFault.TheVariants as made_of
 use Rattle.sg_generated.proofs.SizeDecisions.{large_generator-none}
@@ -13,11 +14,6 @@ use Rattle.sg_rows.specs.declared.fault.CallFault.{CallFault}
 use Rattle.sg_rows.specs.declared.fault.CallFault.TheVariants.{Script, Memory}
 use Rattle.sg_relative.specs.Settled.{IsIdealMade, IsSettled, IsWantOfMemory}
 use Rattle.sg_relative.specs.Rows.{an_ideal, over}
-
--- no condition on arguments
-pub always : {A E : Type 0} (r : Result A E) → OnOk r (Unit {0})
-always (Ok a) = tt
-always (Err e) = tt
 
 pub both_ok : {A E : Type 0} (r : Result A E) (P Q : Type 0) → OnOk r P → OnOk r Q → OnOk r (P × Q)
 both_ok (Ok a) P Q p q = (p, q)
@@ -34,7 +30,7 @@ module _ (G : List ℕ) (P : ℤ → Type 0) (size bad : Type 0) where
   row = record (an_ideal G P) { size = size; bad = bad }
 
   -- an ideal that was made
-  pub told : (J : IdealValue) (m : Made) → IsIdealMade J m → IsIdealOf G P J → (¬ size) × (¬ bad) → Tells (Ok m) row
+  pub told : (J : RelativeIdeal) (m : Made) → IsIdealMade J m → IsIdealOf G P J → (¬ size) × (¬ bad) → Tells (Ok m) row
   told J m h made good =
       subst (λ x. Tells (Ok x) row) (sym h.0)
       (record {
@@ -48,7 +44,7 @@ module _ (G : List ℕ) (P : ℤ → Type 0) (size bad : Type 0) where
 
   module _ (accepted : Type 0) (R : IdealFault → Type 0) (serves : Serves G P accepted R size bad) where
     -- the reply of a row that such a call serves
-    pub settles : (made : Result IdealValue IdealFault) (r : Result Made CallFault) → IsSettled made r → IfOk made (IsIdealOf G P) → OnOk made accepted → IfErr made R → Tells r row
+    pub settles : (made : Result RelativeIdeal IdealFault) (r : Result Made CallFault) → IsSettled made r → IfOk made (IsIdealOf G P) → OnOk made accepted → IfErr made R → Tells r row
     settles (Ok J) (Ok m) h made ok refused = told J m h made (serves.good ok)
     settles (Ok J) (Err e) h made ok refused = no_memory e h
     settles (Err made_of.BadArgument) r h made ok refused =

@@ -4,7 +4,7 @@ use Rattle.std.specs.Prelude.{◌<ℤ◌, ◌≢◌, unsigned_abs}
 use Rattle.std.proofs.lemmas.Int.{ints}
 use Rattle.sg_defs.specs.Ideals.{IsIdealMember, IsInMultiple, IsInTranslate, IsInCanonical, IsInMaximal}
 use Rattle.sg_defs.specs.Membership.{IsNumericalSemigroup}
-use Rattle.sg_ideal.specs.Value.{GeneratesIdeal}
+use Rattle.sg_ideal.specs.Value.{GeneratesIdeal, IsIn}
 use Rattle.sg_lawful.specs.Generators.{AreSmall}
 use Rattle.sg_lawful.specs.Lawful.{IsLawfulIdeal, IsLawfulList}
 use Rattle.sg_exist.specs.Decided.{Decided}
@@ -22,7 +22,7 @@ use Rattle.sg_rows.proofs.EqualData.{list-decided}
 use Rattle.sg_rows.proofs.FormLaws.{of_semigroup_some, of_ideal_some, of_two_ideals_some, of_list_then_semigroup_some, on_two_ideals_some, on_integer_and_ideal_some, on_list_and_semigroup_some}
 use Rattle.sg_rows.proofs.SomeListed.{integers_some}
 use Rattle.sg_rows.proofs.SomeValue.{HasLawful, SomeValue, answers_some, is_some_value, whether_some}
-use Rattle.sg_relative.specs.Rows.{an_ideal, fact_row, generated_row, member_row, InPair, members, multiple_row, over, pair_row, translate_row}
+use Rattle.sg_relative.specs.Rows.{an_ideal, fact_row, generated_row, member_row, InPair, multiple_row, over, pair_row, translate_row}
 use Rattle.sg_relative.specs.Ideals.{table_row, both_row, case_of}
 use Rattle.sg_relative.specs.declared.facts.IdealFact.{IdealFact}
 use Rattle.sg_relative.specs.declared.facts.IdealFact.TheVariants.{Ambient, Generators}
@@ -90,9 +90,9 @@ pair-exists Sum = sum-exists
 pair_row_some : (p : Pair) (I J : RelativeIdeal) → IsLawfulIdeal I.ambient I.generators → IsLawfulIdeal J.ambient J.generators → SomeValue (fits (pair_row p I J))
 pair_row_some p I J i j =
     let same = list-decided I.ambient J.ambient in
-    let made = λ (e : I.ambient ≡ J.ambient). subst (λ A. (K : List ℤ) × GeneratesIdeal I.ambient (InPair p (members I) (IsIdealMember A J.generators)) K) e
+    let made = λ (e : I.ambient ≡ J.ambient). subst (λ A. (K : List ℤ) × GeneratesIdeal I.ambient (InPair p (IsIn I) (IsIdealMember A J.generators)) K) e
     (pair-exists p I.ambient i.ambient.semigroup I.generators J.generators i.not_empty j.not_empty) in
-    an_ideal_some ⊥ (I.ambient ≢ J.ambient) I.ambient (InPair p (members I) (members J)) i.ambient (inr no) (λ a. decided-not (I.ambient ≡ J.ambient) same)
+    an_ideal_some ⊥ (I.ambient ≢ J.ambient) I.ambient (InPair p (IsIn I) (IsIn J)) i.ambient (inr no) (λ a. decided-not (I.ambient ≡ J.ambient) same)
     (λ a b. elim same [ inl e ↦ made e | inr differ ↦ absurd (b differ) ])
 
 size-positive : (k : ℤ) → ¬ (k <ℤ pos 1) → 0 < unsigned_abs k
@@ -101,14 +101,14 @@ size-positive (pos (suc n)) h = omega arith
 size-positive (negsuc n) h = omega arith
 
 multiple_row_some : (k : ℤ) (I : RelativeIdeal) → IsLawfulIdeal I.ambient I.generators → SomeValue (fits (multiple_row k I))
-multiple_row_some k I i = an_ideal_some ⊥ (k <ℤ pos 1) I.ambient (IsInMultiple (unsigned_abs k) (members I)) i.ambient (inr no) (λ a. decided-lt_z k (pos 1))
+multiple_row_some k I i = an_ideal_some ⊥ (k <ℤ pos 1) I.ambient (IsInMultiple (unsigned_abs k) (IsIn I)) i.ambient (inr no) (λ a. decided-lt_z k (pos 1))
     (λ a b. multiple-exists I.ambient i.ambient.semigroup I.generators (unsigned_abs k) i.not_empty (size-positive k b))
 
 translate_row_some : (x : ℤ) (I : RelativeIdeal) → IsLawfulIdeal I.ambient I.generators → SomeValue (fits (translate_row x I))
-translate_row_some x I i = within_some I.ambient (IsInTranslate x (members I)) i.ambient (translate-exists I.ambient i.ambient.semigroup I.generators x i.not_empty)
+translate_row_some x I i = within_some I.ambient (IsInTranslate x (IsIn I)) i.ambient (translate-exists I.ambient i.ambient.semigroup I.generators x i.not_empty)
 
 member_row_some : (x : ℤ) (I : RelativeIdeal) → IsLawfulIdeal I.ambient I.generators → SomeValue (fits (member_row x I))
-member_row_some x I i = answers_some (whether (members I x)) (whether_some (members I x) (ideal_member-decided I.ambient I.generators x))
+member_row_some x I i = answers_some (whether (IsIn I x)) (whether_some (IsIn I x) (ideal_member-decided I.ambient I.generators x))
 
 -- ---- operators
 

@@ -1,7 +1,7 @@
 -- The rows on relative ideals.
 use Rattle.std.specs.Prelude.{◌≡◌, ◌≢◌, ◌<ℤ◌, ℕ, ℤ, pos, List, [], unsigned_abs}
 use Rattle.sg_defs.specs.Ideals.{IsIdealMember, IsInSum, IsInDifference, IsInMultiple, IsInTranslate, IsInCanonical, IsInMaximal}
-use Rattle.sg_ideal.specs.Value.{GeneratesIdeal, IdealValue, IsInBoth}
+use Rattle.sg_ideal.specs.Value.{GeneratesIdeal, IsIn, IsInBoth}
 use Rattle.sg_lawful.specs.Generators.{AreSmall}
 use Rattle.sg_value.specs.Data.{ideal, semigroup}
 use Rattle.sg_value.specs.Plain.{RelativeIdeal}
@@ -17,12 +17,8 @@ abbrev pub over : List ℕ → List ℤ → RelativeIdeal
 over G I = record { ambient = G; generators = I }
 
 -- an ideal as values know it
-abbrev pub stored : IdealValue → RelativeIdeal
-stored J = over J.ambient J.generators
-
--- x is a member of the ideal
-abbrev pub members : RelativeIdeal → ℤ → Type 0
-members I x = IsIdealMember I.ambient I.generators x
+abbrev pub stored : RelativeIdeal → RelativeIdeal
+stored J = J
 
 -- a row whose value is the ideal over G of the integers with P; it is too large where a minimal generator is past the limit
 abbrev pub an_ideal : List ℕ → (ℤ → Type 0) → Row
@@ -34,7 +30,7 @@ fact_row Generators I = answers (λ d. d ≡ integer_list I.generators)
 
 -- whether the integer is a member
 abbrev pub member_row : ℤ → RelativeIdeal → Row
-member_row x I = answers (whether (members I x))
+member_row x I = answers (whether (IsIn I x))
 
 -- the integers that are an entry and a member; the entries are within the limit, and there are some
 abbrev pub generated_row : List ℤ → List ℕ → Row
@@ -56,12 +52,12 @@ InPair Sum P Q x = IsInSum P Q x
 
 -- the ideal of these, where the two are ideals of one semigroup
 abbrev pub pair_row : Pair → RelativeIdeal → RelativeIdeal → Row
-pair_row p I J = record (an_ideal I.ambient (InPair p (members I) (members J))) { bad = I.ambient ≢ J.ambient }
+pair_row p I J = record (an_ideal I.ambient (InPair p (IsIn I) (IsIn J))) { bad = I.ambient ≢ J.ambient }
 
 -- the sums of k members
 abbrev pub multiple_row : ℤ → RelativeIdeal → Row
-multiple_row k I = record (an_ideal I.ambient (IsInMultiple (unsigned_abs k) (members I))) { bad = k <ℤ pos 1 }
+multiple_row k I = record (an_ideal I.ambient (IsInMultiple (unsigned_abs k) (IsIn I))) { bad = k <ℤ pos 1 }
 
 -- the sums of x and a member
 abbrev pub translate_row : ℤ → RelativeIdeal → Row
-translate_row x I = an_ideal I.ambient (IsInTranslate x (members I))
+translate_row x I = an_ideal I.ambient (IsInTranslate x (IsIn I))

@@ -3,7 +3,7 @@
 ghost use Rattle.std.specs.Prelude.{◌≡◌, IfOk};
 ghost use Rattle.sg_ideal.specs.Faults.{IsMemory};
 ghost use Rattle.sg_lawful.specs.Lawful.{IsLawfulIdeal};
-ghost use Rattle.sg_relative.specs.Rows.{over, stored};
+ghost use Rattle.sg_relative.specs.Rows.{over};
 
 use sg_apery::Table;
 use sg_ideal::{Ideal, IdealFault};
@@ -27,7 +27,7 @@ pub fn known_ideal(
     generators: &[i64],
 ) -> Result<Ideal, AllocError>
     requires { IsLawfulIdeal table.now generators.now }
-    ensures { IfOk result (λ ideal. stored ideal ≡ over table.now generators.now) }
+    ensures { IfOk result (λ ideal. ideal ≡ over table.now generators.now) }
 {
     match Ideal::of_generators(alloc, table, generators) {
         Ok(ideal) => Ok(ideal),

@@ -1,7 +1,7 @@
 //! Ideals from an integer and an ideal.
 
 ghost use Rattle.std.specs.Prelude.{◌≡◌};
-ghost use Rattle.sg_relative.specs.Rows.{multiple_row, translate_row, stored};
+ghost use Rattle.sg_relative.specs.Rows.{multiple_row, translate_row};
 ghost use Rattle.sg_rows.specs.Made.{Tells};
 
 use crate::settling::settled;
@@ -18,7 +18,7 @@ pub fn multiple_of(
     ideal: &Ideal,
 ) -> Result<Made, CallFault>
     requires { ideal.now.ambient ≡ table.now }
-    ensures { Tells result (multiple_row factor (stored ideal.now)) }
+    ensures { Tells result (multiple_row factor ideal.now) }
 {
     if factor < 1 {
         return Err(CallFault::Script(Fault::BadArgument));
@@ -34,7 +34,7 @@ pub fn translate_of(
     ideal: &Ideal,
 ) -> Result<Made, CallFault>
     requires { ideal.now.ambient ≡ table.now }
-    ensures { Tells result (translate_row by (stored ideal.now)) }
+    ensures { Tells result (translate_row by ideal.now) }
 {
     settled(alloc, table, translate(alloc, by, ideal))
 }

@@ -1,7 +1,7 @@
 //! Ideals from two ideals of one semigroup.
 
 ghost use Rattle.std.specs.Prelude.{◌≡◌};
-ghost use Rattle.sg_relative.specs.Rows.{pair_row, stored};
+ghost use Rattle.sg_relative.specs.Rows.{pair_row};
 ghost use Rattle.sg_rows.specs.Made.{Tells};
 
 use crate::settling::settled;
@@ -30,7 +30,7 @@ pub fn pair_of(
     other: &Ideal,
 ) -> Result<Made, CallFault>
     requires { one.now.ambient ≡ table.now }
-    ensures { Tells result (pair_row pair (stored one.now) (stored other.now)) }
+    ensures { Tells result (pair_row pair one.now other.now) }
 {
     match pair {
         Pair::Difference => settled(alloc, table, subtract(alloc, one, other)),

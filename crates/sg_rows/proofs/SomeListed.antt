@@ -9,7 +9,8 @@ use Rattle.sg_exist.proofs.SpansExist.{wide-decided}
 use Rattle.sg_value.specs.Data.{int, semigroup, Items, none, item, items_of}
 use Rattle.sg_rows.specs.Order.{Plain, Case, fits}
 use Rattle.sg_rows.specs.Values.{integer_list, natural_list, semigroup_list, integers_with, naturals_with, semigroups_with}
-use Rattle.sg_rows.specs.Limits.{IsWide, spanned}
+use Rattle.sg_lawful.specs.Spans.{IsWide}
+use Rattle.sg_rows.specs.Limits.{spanned}
 use Rattle.sg_lawful.specs.Lawful.{IsLawfulList}
 use Rattle.sg_rows.specs.Lawful.{AreLawful}
 use Rattle.sg_rows.proofs.SomeValue.{SomeValue, HasLawful}

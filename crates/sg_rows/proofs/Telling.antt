@@ -1,11 +1,12 @@
 -- What functions told of rows.
 use Rattle.std.proofs.Common.{◌≡◌, ◌↔◌, ◌<◌, ◌≤◌, ◌^◌, ℕ, ℤ, pos, Bool, IsTrue, List, length, Result, Ok, Err, inl, inr, refl, ap, sym, subst, arith}
-use Rattle.std.specs.Prelude.{EachIndex, slice_index}
+use Rattle.std.specs.Prelude.{EachIndex, slice_index, OnOk}
 use Rattle.sg_value.specs.Data.{int}
 use Rattle.sg_value.specs.declared.limits.TheConstants.{WEIGHT_LIMIT}
 use Rattle.sg_rows.specs.Order.{Plain, Row, Passes}
 use Rattle.sg_rows.specs.Values.{answers, an_integer, a_natural, whether, natural_list, integers_with, naturals_with}
-use Rattle.sg_rows.specs.Limits.{IsWide, IsShort, spanned}
+use Rattle.sg_lawful.specs.Spans.{IsWide, IsShort}
+use Rattle.sg_rows.specs.Limits.{spanned}
 use Rattle.sg_rows.specs.Made.{Gives, Tells}
 use Rattle.sg_rows.specs.declared.made.Made.TheVariants.{Integer, Natural, Truth, Integers, Naturals}
 use Rattle.sg_rows.specs.declared.fault.Fault.TheVariants.{TooLarge}
@@ -24,6 +25,11 @@ pub tells_in : (x : Plain) (row : Row) (r : Result Made CallFault) → Passes ro
 tells_in x row (Ok m) passes h told = (record { passes = passes; value = subst row.value (sym told.0.value) h }, told.1)
 tells_in x row (Err (Script e)) passes h told = reply_in x row (Err e) passes h told
 tells_in x row (Err (Memory e)) passes h told = tt
+
+-- no condition on arguments
+pub always : {A E : Type 0} (r : Result A E) → OnOk r (Unit {0})
+always (Ok a) = tt
+always (Err e) = tt
 
 -- ---- rows that refuse nothing
 

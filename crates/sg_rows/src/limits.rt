@@ -1,7 +1,7 @@
 //! Limits that rows share.
 
 ghost use Rattle.std.specs.Prelude.{◌≤◌, ◌↔◌, IsTrue, IsFalse};
-ghost use Rattle.sg_rows.specs.Limits.{IsWide, IsShort};
+ghost use Rattle.sg_lawful.specs.Spans.{IsWide, IsShort};
 
 use sg_apery::{SPAN_LIMIT, Table};
 use sg_value::WEIGHT_LIMIT;

@@ -26,7 +26,7 @@ use Rattle.sg_shapes.specs.declared.shape.Decomposition.{Decomposition}
 use Rattle.sg_shapes.specs.declared.shape.Decomposition.TheVariants.{IntoIrreducibles}
 
 -- two least semigroups with P hold one another
-one-least : (P : List ℕ → Type 0) (G H K : List ℕ) → IsMinimal H → IsMinimal K → IsLeast P G H → IsLeast P G K → H ≡ K
+pub one-least : (P : List ℕ → Type 0) (G H K : List ℕ) → IsMinimal H → IsMinimal K → IsLeast P G H → IsLeast P G K → H ≡ K
 one-least P G H K minimal_h minimal_k a b = one-minimal_list (IsMember H) H K first second
   where
     first : Generates (IsMember H) H

@@ -10,7 +10,7 @@ use Rattle.sg_defs.proofs.MinimalLemmas.{first-multiplicity, no_sum}
 use Rattle.sg_closure.proofs.FitLemmas.{span-above}
 use Rattle.sg_irred.proofs.CoverLemmas.{cover-member}
 use Rattle.sg_lawful.specs.Lawful.{IsLawfulList}
-use Rattle.sg_rows.specs.Limits.{IsShort}
+use Rattle.sg_lawful.specs.Spans.{IsShort}
 
 -- a semigroup that holds a short and fit one is fit
 module _ (G M : List ℕ) (own : IsLawfulList G) (short : IsShort G) (s : IsNumericalSemigroup M) (minimal : IsMinimal M) (holds : Holds M G) where

@@ -8,7 +8,6 @@ use Rattle.sg_defs.specs.Closures.{IsArf, IsMed, IsSaturated, IsLeast}
 use Rattle.sg_defs.specs.Decomposition.{IsDecomposition}
 use Rattle.sg_apery.specs.Fit.{IsFit}
 use Rattle.sg_apery.specs.Limits.{SPAN_LIMIT}
-use Rattle.sg_apery.proofs.OneListLemmas.{one-minimal_list}
 use Rattle.sg_exist.specs.Decided.{Decided}
 use Rattle.sg_exist.proofs.Decisions.{decided-or}
 use Rattle.sg_exist.proofs.SemigroupDecisions.{fit-decided}
@@ -22,12 +21,14 @@ use Rattle.sg_lawful.specs.Lawful.{IsLawfulList}
 use Rattle.sg_value.specs.Data.{semigroup, Items}
 use Rattle.sg_value.specs.Plain.{Things}
 use Rattle.sg_rows.specs.Lawful.{AreLawful}
-use Rattle.sg_rows.specs.Limits.{IsWide, IsShort, spanned}
+use Rattle.sg_lawful.specs.Spans.{IsWide, IsShort}
+use Rattle.sg_rows.specs.Limits.{spanned}
 use Rattle.sg_rows.specs.Order.{fits}
 use Rattle.sg_rows.specs.Values.{answers, whether, semigroups_with}
 use Rattle.sg_rows.proofs.FormLaws.{of_semigroup_some}
 use Rattle.sg_rows.proofs.SomeListed.{spanned_some, semigroups_some}
 use Rattle.sg_rows.proofs.SomeValue.{SomeValue, answers_some, whether_some}
+use Rattle.sg_shapes.proofs.OneShape.{one-least}
 use Rattle.sg_shapes.specs.Closures.{IsClosure}
 use Rattle.sg_shapes.specs.Shapes.{generators_row, table_row, closure_row, decomposition_row, case_of}
 use Rattle.sg_shapes.specs.declared.shape.Shape.{Shape}
@@ -65,10 +66,6 @@ least-minimal Q told G H h =
         least = λ K semigroup kind above n p. h.least K semigroup kind above n ((m.1.same n).1 p);
       },
     )
-
-one-least : (Q : List ℕ → Type 0) (G H K : List ℕ) → IsMinimal H → IsMinimal K → IsLeast Q G H → IsLeast Q G K → H ≡ K
-one-least Q G H K m n a b = one-minimal_list (IsMember H) H K (record { semigroup = a.semigroup; minimal = m; same = λ x. ((λ p. p), (λ p. p)) })
-    (record { semigroup = b.semigroup; minimal = n; same = λ x. (a.least K b.semigroup b.has b.holds x, b.least H a.semigroup a.has a.holds x) })
 
 -- the minimal list of a closure is within the limits, or that of no closure is
 fit_closure-or_none : (Q : List ℕ → Type 0) (G M : List ℕ) → IsMinimal M → IsLeast Q G M → IsFit M ⊎ ((H : List ℕ) → IsMinimal H → IsLeast Q G H → ¬ IsFit H)

@@ -11,7 +11,8 @@ use Rattle.sg_value.specs.Data.{semigroup, Items}
 use Rattle.sg_value.specs.Plain.{Things}
 use Rattle.sg_rows.specs.Order.{Row, Case}
 use Rattle.sg_rows.specs.Values.{answers, whether, semigroups_with}
-use Rattle.sg_rows.specs.Limits.{IsWide, spanned}
+use Rattle.sg_lawful.specs.Spans.{IsWide}
+use Rattle.sg_rows.specs.Limits.{spanned}
 use Rattle.sg_rows.specs.Forms.{of_semigroup}
 use Rattle.sg_shapes.specs.Closures.{IsClosure}
 use Rattle.sg_shapes.specs.declared.shape.Shape.{Shape}

@@ -1,7 +1,7 @@
 //! Closures.
 
 ghost use Rattle.std.specs.Prelude.{IfOk};
-ghost use Rattle.sg_rows.specs.Limits.{IsShort};
+ghost use Rattle.sg_lawful.specs.Spans.{IsShort};
 ghost use Rattle.sg_shapes.specs.Closures.{IsClosure};
 
 use crate::shape::Closure;

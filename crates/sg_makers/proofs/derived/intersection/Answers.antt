@@ -1,6 +1,7 @@
 use Rattle.sg_apery.specs.Conditions.{IsInBoth}
 use Rattle.sg_apery.specs.Fit.{IsSizeFault}
-use Rattle.sg_makers.proofs.Serving.{settles, always}
+use Rattle.sg_rows.proofs.Telling.{always}
+use Rattle.sg_makers.proofs.Serving.{settles}
 use Rattle.sg_makers.proofs.Deriving.{intersection_serves}
 use Rattle.sg_makers.proofs.derived.intersection.Goals as goal
 

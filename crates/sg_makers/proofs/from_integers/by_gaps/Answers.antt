@@ -1,7 +1,8 @@
 use Rattle.std.proofs.Common.{◌∙◌}
 use Rattle.sg_apery.specs.Conditions.{IsOutside, AreGapsRefused}
 use Rattle.sg_makers.specs.Integers.{IsNoEntry, AreGaps}
-use Rattle.sg_makers.proofs.Serving.{settles, always}
+use Rattle.sg_rows.proofs.Telling.{always}
+use Rattle.sg_makers.proofs.Serving.{settles}
 use Rattle.sg_makers.proofs.FromLists.{gaps_serve}
 use Rattle.sg_makers.proofs.from_integers.by_gaps.Goals as goal
 

@@ -5,7 +5,7 @@ use Rattle.sg_defs.specs.Ideals.{IsInMultiple}
 use Rattle.sg_ideal.specs.Faults.{IsMultipleRefused}
 use Rattle.sg_ideal.specs.Value.{IsIn}
 use Rattle.sg_rows.specs.Made.{Tells}
-use Rattle.sg_relative.specs.Rows.{multiple_row, stored}
+use Rattle.sg_relative.specs.Rows.{multiple_row}
 use Rattle.sg_relative.proofs.Served.{multiple_serves}
 use Rattle.sg_relative.proofs.Serving.{settles}
 use Rattle.sg_relative.proofs.moved.multiple_of.Goals as goal
@@ -19,5 +19,5 @@ returns c =
     let P = IsInMultiple m (IsIn I) in
     let r = c.settled.result in
     let fit : FitsSigned w64 k = search rules in
-    subst (λ y. Tells r (multiple_row y (stored I))) (to_z-of_z w64 k fit)
+    subst (λ y. Tells r (multiple_row y I)) (to_z-of_z w64 k fit)
     (settles I.ambient P ⊥ (z <ℤ pos 1) (0 < m) (IsMultipleRefused m I.ambient P) (multiple_serves I z c.if-factor-lt1.false) c.multiple.result r c.settled.ensures c.multiple.ensures.made c.multiple.ensures.positive c.multiple.ensures.refused)

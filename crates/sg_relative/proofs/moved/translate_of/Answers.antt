@@ -4,9 +4,10 @@ use Rattle.sg_defs.specs.Ideals.{IsInTranslate}
 use Rattle.sg_ideal.specs.Faults.{IsSizeFault}
 use Rattle.sg_ideal.specs.Value.{IsIn}
 use Rattle.sg_rows.specs.Made.{Tells}
-use Rattle.sg_relative.specs.Rows.{translate_row, stored}
+use Rattle.sg_relative.specs.Rows.{translate_row}
 use Rattle.sg_relative.proofs.Served.{own_serves}
-use Rattle.sg_relative.proofs.Serving.{settles, always}
+use Rattle.sg_rows.proofs.Telling.{always}
+use Rattle.sg_relative.proofs.Serving.{settles}
 use Rattle.sg_relative.proofs.moved.translate_of.Goals as goal
 
 pub returns : goal.returns
@@ -16,5 +17,5 @@ returns c =
     let P = IsInTranslate (to_z w64 (of_z w64 x)) (IsIn I) in
     let r = c.settled.result in
     let fit : FitsSigned w64 x = search rules in
-    subst (λ y. Tells r (translate_row y (stored I))) (to_z-of_z w64 x fit)
+    subst (λ y. Tells r (translate_row y I)) (to_z-of_z w64 x fit)
     (settles I.ambient P ⊥ ⊥ (Unit {0}) (IsSizeFault I.ambient P) (own_serves I.ambient P) c.translate.result r c.settled.ensures c.translate.ensures.made (always c.translate.result) c.translate.ensures.refused)

@@ -3,7 +3,7 @@ use Rattle.sg_defs.specs.Decomposition.{IsDecomposition}
 use Rattle.sg_lawful.specs.Lawful.{IsLawfulList}
 use Rattle.sg_rows.specs.Made.{Tells}
 use Rattle.sg_rows.specs.declared.made.Made.TheVariants.{Semigroups}
-use Rattle.sg_rows.specs.Limits.{IsShort}
+use Rattle.sg_lawful.specs.Spans.{IsShort}
 use Rattle.sg_rows.specs.Values.{semigroups_with}
 use Rattle.sg_rows.proofs.Spans.{spanned_pass}
 use Rattle.sg_shapes.specs.Shapes.{decomposition_row}
