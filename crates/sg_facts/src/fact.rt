@@ -7,9 +7,7 @@ use crate::gap_lists::{fundamental_gaps_within, gaps_within, small_elements_with
 use sg_apery::Table;
 use sg_invar::{conductor, frobenius, genus, special_gaps};
 use sg_nat::{Ints, Nats};
-use sg_rows::{
-    CallFault, Made, Named, OfGenerators, OfNumbers, OfTable, OfTableAndNumbers, find,
-};
+use sg_rows::{CallFault, Made, Named, OfGenerators, OfNumbers, OfTable, OfTableAndNumbers, find};
 use std::alloc::Global;
 
 /// A command of this crate.
@@ -35,12 +33,24 @@ static NAMES: [Named<Fact>; 12] = [
         b"EmbeddingDimension",
         Fact::OfGenerators(GeneratorsFact::EmbeddingDimension),
     ),
-    Named(b"FrobeniusNumber", Fact::OfTable(TableFact::FrobeniusNumber)),
-    Named(b"FundamentalGaps", Fact::OfTable(TableFact::FundamentalGaps)),
+    Named(
+        b"FrobeniusNumber",
+        Fact::OfTable(TableFact::FrobeniusNumber),
+    ),
+    Named(
+        b"FundamentalGaps",
+        Fact::OfTable(TableFact::FundamentalGaps),
+    ),
     Named(b"Gaps", Fact::OfTable(TableFact::Gaps)),
     Named(b"Genus", Fact::OfTable(TableFact::Genus)),
-    Named(b"Multiplicity", Fact::OfGenerators(GeneratorsFact::Multiplicity)),
-    Named(b"PseudoFrobenius", Fact::OfNumbers(NumbersFact::PseudoFrobenius)),
+    Named(
+        b"Multiplicity",
+        Fact::OfGenerators(GeneratorsFact::Multiplicity),
+    ),
+    Named(
+        b"PseudoFrobenius",
+        Fact::OfNumbers(NumbersFact::PseudoFrobenius),
+    ),
     Named(b"SmallElements", Fact::OfTable(TableFact::SmallElements)),
     Named(b"SpecialGaps", Fact::OfBoth(BothFact::SpecialGaps)),
     Named(b"Type", Fact::OfNumbers(NumbersFact::Type)),
@@ -81,7 +91,9 @@ impl OfGenerators for GeneratorsFact {
 
     fn tell(self, _alloc: Global, generators: &Nats) -> Result<Made, CallFault> {
         match self {
-            GeneratorsFact::EmbeddingDimension => Ok(Made::Natural(generators.as_slice().len() as u64)),
+            GeneratorsFact::EmbeddingDimension => Ok(Made::Natural(
+                generators.as_slice().len() as u64,
+            )),
             GeneratorsFact::MinimalGenerators => Ok(Made::Naturals(generators.try_clone()?)),
             GeneratorsFact::Multiplicity => Ok(Made::Natural(generators.as_slice()[0])),
         }

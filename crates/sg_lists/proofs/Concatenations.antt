@@ -3,7 +3,6 @@ use Rattle.std.proofs.Common.{◌≡◌, ◌<◌, ◌≤◌, ◌-◌, List, [], 
 use Rattle.std.proofs.lemmas.Result.{err_from_is_err_and}
 use Rattle.sg_value.specs.declared.limits.TheConstants.{NESTING_LIMIT, WEIGHT_LIMIT}
 use Rattle.sg_value.specs.Known.{Known, named}
-use Rattle.std.specs.Global.{Global}
 use Rattle.std.specs.Option.{option_map}
 use Rattle.sg_value.specs.Data.{list, none, item, Items, data_map, items_map, weight_of_all, depth_of_all, EachThing, EachThingOfAll}
 use Rattle.sg_value.specs.Plain.{AllKnownIn, IsKnown, contents, contents_of_all, plain_of_all, thing_at, Places}

@@ -6,7 +6,7 @@ use Rattle.sg_value.specs.Data.{int, list, Items}
 use Rattle.sg_value.specs.Plain.{Things}
 use Rattle.sg_rows.specs.Entries.{entry_count}
 use Rattle.sg_rows.specs.Kinds.{as_list, one}
-use Rattle.sg_rows.specs.Order.{Plain, Case, fits}
+use Rattle.sg_rows.specs.Order.{fits}
 use Rattle.sg_rows.specs.Values.{answers}
 use Rattle.sg_rows.proofs.FormLaws.{of_list_one, of_list_or_integers_one}
 use Rattle.sg_rows.proofs.OneListed.{natural_one}

@@ -11,7 +11,7 @@ use Rattle.sg_value.specs.Plain.{Things}
 use Rattle.sg_rows.specs.Entries.{entry_count}
 use Rattle.sg_rows.specs.Kinds.{as_list, one}
 use Rattle.sg_rows.specs.Lawful.{IsLawfulThing, AreLawful}
-use Rattle.sg_rows.specs.Order.{Plain, Case, fits}
+use Rattle.sg_rows.specs.Order.{fits}
 use Rattle.sg_rows.specs.Values.{answers, a_natural}
 use Rattle.sg_rows.proofs.FormLaws.{of_list_some, of_list_or_integers_some}
 use Rattle.sg_rows.proofs.KindLemmas.{any_some}

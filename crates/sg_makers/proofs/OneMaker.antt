@@ -1,5 +1,5 @@
 -- The rows that make a semigroup have at most one value.
-use Rattle.std.proofs.Common.{ℕ, ℤ, pos, ◌*ℤ◌, List}
+use Rattle.std.proofs.Common.{ℤ, pos, ◌*ℤ◌, List}
 use Rattle.std.specs.Prelude.{unsigned_abs}
 use Rattle.sg_defs.specs.Membership.{IsMember, IsIntegerMember}
 use Rattle.sg_apery.specs.Classes.{IsAboveEntry}

@@ -3,7 +3,9 @@
 ghost use Rattle.std.specs.Prelude.{◌≡◌};
 ghost use Rattle.sg_makers.specs.Makers.{named, takes};
 
-use crate::from_integers::{by_apery_list, by_fundamental_gaps, by_gaps, by_small_elements, generated};
+use crate::from_integers::{
+    by_apery_list, by_fundamental_gaps, by_gaps, by_small_elements, generated,
+};
 use sg_rows::{CallFault, Made, Named, OfIntegers, find};
 use std::alloc::Global;
 

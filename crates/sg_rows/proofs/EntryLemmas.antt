@@ -1,5 +1,5 @@
 -- Lists of values from one entry on.
-use Rattle.std.proofs.Common.{◌≡◌, ◌+◌, ◌<◌, ◌≤◌, ◌↔◌, ℕ, List, [], ◌∷◌, None, length, get_or, drop, inl, inr, ◌⊎◌, refl, ap, sym, ◌∙◌, subst}
+use Rattle.std.proofs.Common.{◌≡◌, ◌+◌, ◌<◌, ◌≤◌, ◌↔◌, ℕ, List, length, get_or, drop, inl, inr, ◌⊎◌, ap, sym, ◌∙◌, subst}
 use Rattle.std.proofs.lemmas.List.{drop_more, drop_all}
 use Rattle.sg_value.specs.Data.{item}
 use Rattle.sg_value.specs.Plain.{Named, contents, contents_of_all, plain, plain_of_all, Plain}

@@ -1,5 +1,5 @@
 -- Arguments by their kinds, over stores and without one.
-use Rattle.std.proofs.Common.{◌≡◌, ℤ, List, [], ◌∷◌, length, get_or, arith, Option, Some, None, refl, ap, ◌∙◌}
+use Rattle.std.proofs.Common.{◌≡◌, List, [], ◌∷◌, length, get_or, arith, Option, Some, None, refl, ap, ◌∙◌}
 use Rattle.std.specs.Option.{option_map}
 use Rattle.std.specs.Prelude.{IfSome, ⊤, unwrap_or}
 use Rattle.sg_value.specs.Data.{Data, Items, int, list, semigroup, ideal, none, item, data_map, items_map, EachThing, EachThingOfAll, Kind, semigroups, ideals}

@@ -1,12 +1,11 @@
 -- Replies that are lists of numbers or of semigroups.
-use Rattle.std.proofs.Common.{◌≡◌, ◌<◌, ◌≤◌, ℕ, ℤ, pos, List, [], ◌∷◌, length, map, Result, Ok, Err, inl, inr, refl, ap, sym, ◌∙◌, subst, Vec, Bool, true, false, IsTrue, arith, rules}
+use Rattle.std.proofs.Common.{◌≡◌, ◌<◌, ◌≤◌, ℕ, ℤ, pos, List, [], ◌∷◌, length, map, Result, Ok, Err, inl, inr, refl, ap, sym, ◌∙◌, subst, Bool, true, false, IsTrue, arith}
 use Rattle.sg_value.specs.Known.{Known, named}
 use Rattle.std.proofs.lemmas.Bool.{cases_lt}
-use Rattle.std.specs.Global.{Global}
 use Rattle.sg_value.specs.Data.{Data, int, list, semigroup, item, items_of, data_map, items_map, weight_of, weight_of_all, depth_of, depth_of_all, EachThing, EachThingOfAll, Kind}
 use Rattle.sg_value.specs.Places.{Entries}
 use Rattle.sg_value.specs.declared.limits.TheConstants.{WEIGHT_LIMIT}
-use Rattle.sg_value.specs.Plain.{contents, contents_of_all, thing_at, IsKnown, Things, Places}
+use Rattle.sg_value.specs.Plain.{contents, thing_at, IsKnown, Things, Places}
 use Rattle.sg_value.specs.declared.value.Value.{Value}
 use Rattle.sg_value.specs.declared.value.Value.TheVariants as value
 use Rattle.sg_rows.specs.Order.{Plain, fits, Delivers, IsReply}

@@ -1,10 +1,9 @@
 -- How large plain lists are, and lists as replies.
-use Rattle.std.proofs.Common.{◌≡◌, ◌<◌, ◌≤◌, ◌+◌, suc, max, Ok, Err, Vec, Global, inl, inr, refl, ap, ap₂, sym, ◌∙◌, subst, arith}
+use Rattle.std.proofs.Common.{◌≡◌, ◌<◌, ◌≤◌, ◌+◌, suc, max, Ok, Err, inl, inr, refl, ap, ap₂, sym, ◌∙◌, subst, arith}
 use Rattle.sg_value.specs.Known.{Known, named}
 use Rattle.sg_value.specs.Data.{Data, list, Items, none, item, data_map, items_map, depth_of, depth_of_all, weight_of, weight_of_all, EachThing, Kind, EachThingOfAll}
-use Rattle.sg_value.specs.Plain.{AllKnownIn, IsKnown, plain, plain_of_all, thing_at, Things, Entries}
+use Rattle.sg_value.specs.Plain.{IsKnown, plain, thing_at, Things, Entries}
 use Rattle.sg_value.specs.declared.limits.TheConstants.{NESTING_LIMIT, WEIGHT_LIMIT}
-use Rattle.sg_value.specs.declared.value.Value.{Value}
 use Rattle.sg_value.specs.declared.value.Value.TheVariants as value
 use Rattle.sg_rows.specs.Order.{Row, fits, IsReply, Passes}
 use Rattle.sg_rows.specs.Replies.{Replies}

@@ -1,7 +1,6 @@
 -- A row that has one value has one reply.
 use Rattle.std.proofs.Common.{◌≡◌, ◌↔◌, ℕ, ℤ, Bool, true, false, IsTrue, List, Option, Some, None, Result, Ok, inl, inr, refl, ap, sym, ◌∙◌, subst}
-use Rattle.sg_value.specs.Data.{Data, Items, none, item, int, truth, semigroup, Kind}
-use Rattle.sg_value.specs.Plain.{Things}
+use Rattle.sg_value.specs.Data.{Data, int, truth, semigroup, Kind}
 use Rattle.sg_defs.specs.Membership.{Generates}
 use Rattle.sg_apery.proofs.OneListLemmas.{one-minimal_list}
 use Rattle.sg_rows.specs.Order.{Plain, Case, unfit, fits, Checks, passed, check, FirstOf, value_checks, named_checks, Delivers, IsReply, Row}

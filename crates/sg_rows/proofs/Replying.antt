@@ -1,5 +1,5 @@
 -- Replies of rows.
-use Rattle.std.proofs.Common.{◌≡◌, ◌↔◌, ℤ, Bool, true, false, not, IsTrue, Result, Ok, Err, inl, inr, refl, ap, sym, subst, arith, rules}
+use Rattle.std.proofs.Common.{◌≡◌, ◌↔◌, ℤ, Bool, true, false, not, IsTrue, Result, Ok, Err, inl, inr, refl, ap, sym, subst, arith}
 use Rattle.sg_value.specs.Known.{Known, named}
 use Rattle.std.specs.Prelude.{FitsSigned}
 use Rattle.std.specs.Int.{w64}

@@ -1,13 +1,12 @@
 -- Rows with lists as values, and with a limit on the span, have a value.
-use Rattle.std.proofs.Common.{◌≡◌, ℕ, ℤ, pos, List, [], ◌∷◌, Option, Some, None, map, inr, refl}
-use Rattle.sg_value.specs.Plain.{Things}
+use Rattle.std.proofs.Common.{◌≡◌, ℕ, ℤ, pos, List, [], ◌∷◌, map, inr, refl}
 use Rattle.std.specs.Prelude.{All}
 use Rattle.std.proofs.lemmas.List.Elements.{All-head, All-tail}
 use Rattle.sg_defs.specs.Membership.{IsNumericalSemigroup}
 use Rattle.sg_apery.specs.Limits.{SPAN_LIMIT}
 use Rattle.sg_exist.proofs.SpansExist.{wide-decided}
-use Rattle.sg_value.specs.Data.{int, semigroup, Items, none, item, items_of}
-use Rattle.sg_rows.specs.Order.{Plain, Case, fits}
+use Rattle.sg_value.specs.Data.{int, semigroup, items_of}
+use Rattle.sg_rows.specs.Order.{Plain, fits}
 use Rattle.sg_rows.specs.Values.{integer_list, natural_list, semigroup_list, integers_with, naturals_with, semigroups_with}
 use Rattle.sg_lawful.specs.Spans.{IsWide}
 use Rattle.sg_rows.specs.Limits.{spanned}

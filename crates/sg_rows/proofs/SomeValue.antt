@@ -1,6 +1,5 @@
 -- Where the conditions of a row are decided in turn, and a value is there where none of them holds, there is a reply.
 use Rattle.std.proofs.Common.{◌≡◌, ℕ, ℤ, ◌<◌, ◌^◌, List, [], ◌∷◌, Option, Some, None, Ok, Err, inl, inr, refl}
-use Rattle.sg_value.specs.Plain.{Things}
 use Rattle.std.specs.Prelude.{pos, IfSome, FitsSigned, ⊤}
 use Rattle.std.specs.Int.{w64}
 use lib.Signed.{mag}
@@ -9,12 +8,12 @@ use Rattle.sg_apery.specs.Fit.{IsFit}
 use Rattle.sg_exist.specs.Decided.{Decided}
 use Rattle.sg_exist.proofs.Decisions.{decided-not, decided-lt, decided-same, truth-exists}
 use Rattle.sg_exist.proofs.SemigroupDecisions.{fit_list-or_none, unfit-decided}
-use Rattle.sg_value.specs.Data.{int, truth, semigroup, Items, none, item, weight_of, depth_of}
+use Rattle.sg_value.specs.Data.{int, truth, semigroup, weight_of, depth_of}
 use Rattle.sg_value.specs.declared.limits.TheConstants.{NESTING_LIMIT, WEIGHT_LIMIT}
 use Rattle.sg_rows.specs.Order.{Plain, Reply, Case, unfit, fits, Checks, passed, check, FirstOf, InBits, named_checks, value_checks, Delivers, IsReply, Row}
 use Rattle.sg_rows.specs.Kinds.{given, fitted}
 use Rattle.sg_rows.specs.Values.{answers, an_integer, a_natural, an_entry, whether, generates}
-use Rattle.sg_rows.specs.Lawful.{IsLawful, AreLawful, SomeReply}
+use Rattle.sg_rows.specs.Lawful.{IsLawful, SomeReply}
 use Rattle.sg_rows.specs.declared.fault.Fault.TheVariants.{WrongType}
 
 -- each condition is decided once those before it do not hold, and where none holds the rest is there

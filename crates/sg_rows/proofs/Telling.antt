@@ -1,5 +1,5 @@
 -- What functions told of rows.
-use Rattle.std.proofs.Common.{◌≡◌, ◌↔◌, ◌<◌, ◌≤◌, ◌^◌, ℕ, ℤ, pos, Bool, IsTrue, List, length, Result, Ok, Err, inl, inr, refl, ap, sym, subst, arith}
+use Rattle.std.proofs.Common.{◌≡◌, ◌↔◌, ◌<◌, ◌≤◌, ◌^◌, ℕ, ℤ, pos, Bool, IsTrue, List, length, Result, Ok, Err, inl, inr, refl, ap, sym, subst}
 use Rattle.std.specs.Prelude.{EachIndex, slice_index, OnOk}
 use Rattle.sg_value.specs.Data.{int}
 use Rattle.sg_value.specs.declared.limits.TheConstants.{WEIGHT_LIMIT}
@@ -7,7 +7,7 @@ use Rattle.sg_rows.specs.Order.{Plain, Row, Passes}
 use Rattle.sg_rows.specs.Values.{answers, an_integer, a_natural, whether, natural_list, integers_with, naturals_with}
 use Rattle.sg_lawful.specs.Spans.{IsWide, IsShort}
 use Rattle.sg_rows.specs.Limits.{spanned}
-use Rattle.sg_rows.specs.Made.{Gives, Tells}
+use Rattle.sg_rows.specs.Made.{Tells}
 use Rattle.sg_rows.specs.declared.made.Made.TheVariants.{Integer, Natural, Truth, Integers, Naturals}
 use Rattle.sg_rows.specs.declared.fault.Fault.TheVariants.{TooLarge}
 use Rattle.sg_rows.specs.declared.fault.CallFault.TheVariants.{Script, Memory}

@@ -1,10 +1,9 @@
 -- What a call that answers a row gave.
-use Rattle.std.specs.Prelude.{◌≡◌, None, Result, Ok, Err, ⊤}
+use Rattle.std.specs.Prelude.{Result, Ok, Err, ⊤}
 use Rattle.sg_value.specs.Known.{Known, named}
 use Rattle.sg_value.specs.Plain.{plain, AllKnown}
 use Rattle.sg_value.specs.declared.value.Value.{Value}
 use Rattle.sg_rows.specs.Order.{Case, IsReply}
-use Rattle.sg_rows.specs.declared.fault.Fault.TheVariants.{WrongType}
 use Rattle.sg_rows.specs.declared.fault.CallFault.{CallFault}
 use Rattle.sg_rows.specs.declared.fault.CallFault.TheVariants.{Script, Memory}
 

@@ -186,7 +186,11 @@ pub fn three_integers(args: &[Value]) -> Option<(i64, (i64, i64))>
     if args.len() != 3 {
         return None;
     }
-    let (x, y, z) = (integer_of(&args[0])?, integer_of(&args[1])?, integer_of(&args[2])?);
+    let (x, y, z) = (
+        integer_of(&args[0])?,
+        integer_of(&args[1])?,
+        integer_of(&args[2])?,
+    );
     Some((x, (y, z)))
 }
 

@@ -1,6 +1,6 @@
 use Rattle.std.proofs.Common.{◌≡◌, ◌∷◌, true, false, Some, sym, ◌∙◌}
 use Rattle.sg_value.specs.Data.{Items}
-use Rattle.sg_value.specs.Plain.{contents, contents_of_all, Places}
+use Rattle.sg_value.specs.Plain.{contents_of_all, Places}
 use Rattle.sg_lists.specs.Concatenations.{concatenated}
 use Rattle.sg_lists.proofs.Concatenations.{some_of, not_lists, too_deep, too_heavy, within_as, appended}
 use Rattle.sg_lists.proofs.concatenation.concatenate_onto.Goals as goal

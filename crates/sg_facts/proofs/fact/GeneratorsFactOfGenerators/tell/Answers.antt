@@ -1,6 +1,5 @@
-use Rattle.std.proofs.Common.{◌<◌, ◌^◌, pos, Ok, get_or, length, ap, sym, subst, arith, rules}
+use Rattle.std.proofs.Common.{◌<◌, ◌^◌, Ok, get_or, length, ap, sym, subst, rules}
 use Rattle.sg_defs.specs.Membership.{IsMultiplicity}
-use Rattle.sg_value.specs.Data.{int}
 use Rattle.sg_rows.specs.Made.{Tells}
 use Rattle.sg_rows.specs.declared.made.Made.TheVariants.{Natural}
 use Rattle.sg_rows.proofs.Telling.{tells_natural, tells_this_natural}

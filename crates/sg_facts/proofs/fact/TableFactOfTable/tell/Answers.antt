@@ -1,4 +1,4 @@
-use Rattle.std.proofs.Common.{◌<◌, ◌^◌, ℕ, List, get_or, length, Ok, sym, subst, arith}
+use Rattle.std.proofs.Common.{get_or, Ok, sym, subst}
 use Rattle.sg_defs.specs.Apery.{IsApery}
 use Rattle.sg_rows.specs.Made.{Tells}
 use Rattle.sg_rows.specs.declared.made.Made.TheVariants.{Naturals}
