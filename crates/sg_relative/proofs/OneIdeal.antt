@@ -1,8 +1,8 @@
 -- The rows on relative ideals have one value.
-use Rattle.std.proofs.Common.{◌≡◌, ℕ, ℤ, List, ap, sym, ◌∙◌}
+use Rattle.std.proofs.Common.{ℕ, ℤ, List, ap, sym, ◌∙◌}
 use Rattle.std.specs.Prelude.{unsigned_abs}
 use Rattle.sg_defs.specs.Ideals.{IsIdealMember, IsInMultiple, IsInTranslate, IsInCanonical, IsInMaximal}
-use Rattle.sg_ideal.specs.Value.{GeneratesIdeal, IsIn}
+use Rattle.sg_ideal.specs.Value.{IsIn}
 use Rattle.sg_generated.proofs.OneIdeal.{one-minimal_ideal}
 use Rattle.sg_value.specs.Data.{ideal, semigroup, Items}
 use Rattle.sg_value.specs.Plain.{Things, RelativeIdeal}

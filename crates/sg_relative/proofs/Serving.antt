@@ -32,11 +32,13 @@ module _ (G : List ℕ) (P : ℤ → Type 0) (size bad : Type 0) where
   -- an ideal that was made
   pub told : (J : RelativeIdeal) (m : Made) → IsIdealMade J m → IsIdealOf G P J → (¬ size) × (¬ bad) → Tells (Ok m) row
   told J m h made good =
-      subst (λ x. Tells (Ok x) row) (sym h.0)
-      (record {
-        passes = record { size = good.0; bad = good.1; limit = λ l. l J.generators made.generates made.small; many = λ n. n; budget = λ n. n };
-        value = (J.generators, ap (λ A. ideal (over A J.generators)) made.ambient, made.generates);
-      }, h.1)
+      subst (λ x. Tells (Ok x) row) (sym h.0) (
+        record {
+          passes = record { size = good.0; bad = good.1; limit = λ l. l J.generators made.generates made.small; many = λ n. n; budget = λ n. n };
+          value = (J.generators, ap (λ A. ideal (over A J.generators)) made.ambient, made.generates);
+        },
+        h.1,
+      )
 
   no_memory : (e : CallFault) → IsWantOfMemory e → Tells (Err e) row
   no_memory (Script e) h = absurd h

@@ -21,11 +21,7 @@ fn want_of_memory(fault: IdealFault) -> AllocError
 }
 
 /// The ideal over the semigroup of the table that has this minimal list: generating it again gives the same.
-pub fn known_ideal(
-    alloc: Global,
-    table: &Table,
-    generators: &[i64],
-) -> Result<Ideal, AllocError>
+pub fn known_ideal(alloc: Global, table: &Table, generators: &[i64]) -> Result<Ideal, AllocError>
     requires { IsLawfulIdeal table.now generators.now }
     ensures { IfOk result (λ ideal. ideal ≡ over table.now generators.now) }
 {

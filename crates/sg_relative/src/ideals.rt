@@ -38,10 +38,7 @@ static NAMES: [Named<IdealCommand>; 4] = [
         IdealCommand::OfBoth(BothIdeal::Canonical),
     ),
     Named(b"IdealOfNumericalSemigroup", IdealCommand::Generated),
-    Named(
-        b"MaximalIdeal",
-        IdealCommand::OfTable(TableIdeal::Maximal),
-    ),
+    Named(b"MaximalIdeal", IdealCommand::OfTable(TableIdeal::Maximal)),
 ];
 
 /// The command of this name.

@@ -27,12 +27,7 @@ pub fn multiple_of(
 }
 
 /// The sums of an integer and a member of an ideal over the semigroup of the table.
-pub fn translate_of(
-    alloc: Global,
-    by: i64,
-    table: &Table,
-    ideal: &Ideal,
-) -> Result<Made, CallFault>
+pub fn translate_of(alloc: Global, by: i64, table: &Table, ideal: &Ideal) -> Result<Made, CallFault>
     requires { ideal.now.ambient ≡ table.now }
     ensures { Tells result (translate_row by ideal.now) }
 {

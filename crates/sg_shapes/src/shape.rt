@@ -160,7 +160,9 @@ impl OfTableAndNumbers for Decomposition {
         let special = special_gaps(alloc, table, numbers)?;
         let _minimal = table.generators();
         match self {
-            Decomposition::IntoIrreducibles => Ok(Made::Semigroups(decompose(alloc, table, &special)?)),
+            Decomposition::IntoIrreducibles => Ok(Made::Semigroups(decompose(
+                alloc, table, &special,
+            )?)),
         }
     }
 }

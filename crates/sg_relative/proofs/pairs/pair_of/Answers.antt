@@ -1,5 +1,5 @@
-use Rattle.std.proofs.Common.{◌≡◌, Result, sym, subst}
-use Rattle.std.specs.Prelude.{ℤ, ◌≢◌, IfOk, IfErr, OnOk}
+use Rattle.std.proofs.Common.{◌≡◌, sym, subst}
+use Rattle.std.specs.Prelude.{◌≢◌}
 use Rattle.sg_defs.specs.Ideals.{IsInDifference, IsInSum}
 use Rattle.sg_ideal.specs.Faults.{IsPairRefused}
 use Rattle.sg_ideal.specs.Value.{IsIn, IsInBoth}
