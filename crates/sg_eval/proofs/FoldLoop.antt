@@ -12,7 +12,7 @@ use Rattle.sg_rows.specs.declared.fault.Fault.TheVariants.{WrongCount}
 use Rattle.sg_tree.specs.Tree.{Tree, Argument, Arguments, no_arguments, argument, plain as plain_argument, arrow}
 use Rattle.sg_tree.specs.TreeView.{argument_of, arguments_of}
 use Rattle.sg_tree.specs.declared.expr.Arg.{Arg}
-use Rattle.sg_meaning.specs.declared.folding.Folding.{Folding}
+use Rattle.sg_calls.specs.declared.command.Folding.{Folding}
 use Rattle.sg_meaning.specs.Expressions.{eval, eval_folding, listed}
 use Rattle.sg_eval.specs.Folded.{goes_on, gathered_at, finished, fold_on, listed_if, fold_rest}
 use Rattle.sg_eval.specs.Given.{eval_argument}

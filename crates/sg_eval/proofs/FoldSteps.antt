@@ -8,8 +8,8 @@ use Rattle.sg_value.specs.Plain.{Named, AllKnown, AllKnownIn, IsKnown, contents,
 use Rattle.sg_value.specs.declared.value.Value.{Value}
 use Rattle.sg_rows.specs.Order.{Plain}
 use Rattle.sg_rows.specs.Entries.{entry_count}
-use Rattle.sg_meaning.specs.declared.folding.Folding.{Folding}
-use Rattle.sg_meaning.specs.declared.folding.Folding.TheVariants.{EachValue, ThoseTrue, AllTrue, AnyTrue, CountTrue}
+use Rattle.sg_calls.specs.declared.command.Folding.{Folding}
+use Rattle.sg_calls.specs.declared.command.Folding.TheVariants.{EachValue, ThoseTrue, AllTrue, AnyTrue, CountTrue}
 use Rattle.sg_meaning.specs.Expressions.{folded, values_over, true_over, is_each, decided, ask}
 use Rattle.sg_eval.specs.Folded.{is_true, goes_on, gathered_at, finished, fold_on}
 use Rattle.sg_meaning.specs.Process.{Process, gives, ◌>>=◌}

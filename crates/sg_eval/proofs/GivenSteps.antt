@@ -1,5 +1,5 @@
 -- Arguments, one after the other.
-use Rattle.std.proofs.Common.{◌≡◌, ◌<◌, ◌+◌, ℕ, suc, List, [], ◌∷◌, length, get_or, drop, Option, Some, None, MatchOption, length-append, Result, Ok, Err, IsErrAnd, Vec, Global, refl, ap, sym, ◌∙◌, subst}
+use Rattle.std.proofs.Common.{◌≡◌, ◌<◌, ◌+◌, ℕ, suc, List, [], ◌∷◌, length, get_or, drop, Bool, true, false, Option, Some, None, MatchOption, length-append, Result, Ok, Err, IsErrAnd, Vec, Global, refl, ap, sym, ◌∙◌, subst}
 use Rattle.sg_value.specs.Known.{Known, named}
 use Rattle.std.proofs.Math.Path.{fun_ext}
 use Rattle.std.proofs.lemmas.List.{drop_more}
@@ -8,18 +8,20 @@ use Rattle.sg_value.specs.Data.{Items, none, item, join}
 use Rattle.sg_value.specs.Plain.{Named, plain_of_all, Things}
 use Rattle.sg_value.specs.declared.value.Value.{Value}
 use Rattle.sg_rows.specs.Order.{Plain}
-use Rattle.std.specs.Prelude.{⊤}
+use Rattle.std.specs.Prelude.{if◌then◌else◌, ⊤}
 use Rattle.sg_store.specs.Interned.{Keeps}
-use Rattle.sg_calls.specs.Commands.{checked}
+use Rattle.sg_calls.specs.Commands.{takes, word_named}
 use Rattle.sg_rows.specs.declared.fault.Fault.{Fault}
+use Rattle.sg_rows.specs.declared.fault.Fault.TheVariants.{WrongCount}
 use Rattle.sg_rows.specs.declared.fault.CallFault.{CallFault}
 use Rattle.sg_rows.specs.declared.fault.CallFault.TheVariants.{Script}
 use Rattle.sg_meaning.specs.Queries.{calls}
 use Rattle.sg_tree.specs.Tree.{call, Argument, Arguments, argument, no_arguments, plain as plain_argument, arrow}
 use Rattle.sg_tree.specs.TreeView.{argument_of, arguments_of}
 use Rattle.sg_tree.specs.declared.expr.Arg.{Arg}
-use Rattle.sg_meaning.specs.declared.folding.Folding.{Folding}
-use Rattle.sg_meaning.specs.Expressions.{eval, eval_given, eval_folding, folding_named, called, argument_count, unless, plain_alone, ask}
+use Rattle.sg_calls.specs.declared.command.Command.{Command}
+use Rattle.sg_calls.specs.declared.command.Word.{Word}
+use Rattle.sg_meaning.specs.Expressions.{eval, eval_given, eval_folding, answered, called, argument_count, plain_alone, ask}
 use Rattle.sg_eval.specs.Given.{plain_if, known_if, plain_where, known_where, eval_argument, IsWith}
 use Rattle.sg_eval.specs.Outcomes.{Evaluates}
 use Rattle.sg_meaning.specs.Process.{Process, gives, refuses, ◌>>=◌}
@@ -130,23 +132,23 @@ module _ (ps : Vars) (s s1 : State) (a : Argument) (others : Arguments) (o : Opt
       (evaluates_exit plain_if known_if plain_where known_where r e s s1 (λ names. eval_argument ps a) (λ names d. after_given ps others (with_where (plain_where names o) d)) failed
       (subst (λ qs. Evaluates plain_if known_if (Err e) s s1 (λ names. eval_argument qs a)) same h))
 
--- a call of a command that takes no arrow goes on where its name and the number of its arguments are right, and is
--- refused where not
-pub call_right : (env : Vars) (name : List ℕ) (gs : List Arg) → folding_named name ≡ None → checked name (length gs) ≡ None
-    → eval_given env (arguments_of gs) >>= (λ values. plain_alone values (λ ds. ask (calls name ds))) ≡ eval env (call name (arguments_of gs))
-call_right env name gs alone right =
-    ap (λ o. unless o (eval_given env (arguments_of gs) >>= (λ values. plain_alone values (λ ds. ask (calls name ds))))) (sym (ap (checked name) (count-arguments gs) ∙ right))
-    ∙ ap (λ o. called o name (argument_count (arguments_of gs)) (eval_given env (arguments_of gs)) (eval_folding env (arguments_of gs))) (sym alone)
+-- a call is what is said of the word that its name is
+pub call_word : (env : Vars) (name : List ℕ) (gs : List Arg) (w : Option Word) → w ≡ word_named name
+    → called w (argument_count (arguments_of gs)) (eval_given env (arguments_of gs)) (eval_folding env (arguments_of gs)) ≡ eval env (call name (arguments_of gs))
+call_word env name gs w is = ap (λ o. called o (argument_count (arguments_of gs)) (eval_given env (arguments_of gs)) (eval_folding env (arguments_of gs))) is
 
--- a call that is refused for its name or its count
-pub call_wrong : (env : Vars) (name : List ℕ) (gs : List Arg) (e : Fault) → folding_named name ≡ None → checked name (length gs) ≡ Some e → refuses e ≡ eval env (call name (arguments_of gs))
-call_wrong env name gs e alone wrong =
-    ap (λ o. unless o (eval_given env (arguments_of gs) >>= (λ values. plain_alone values (λ ds. ask (calls name ds))))) (sym (ap (checked name) (count-arguments gs) ∙ wrong))
-    ∙ ap (λ o. called o name (argument_count (arguments_of gs)) (eval_given env (arguments_of gs)) (eval_folding env (arguments_of gs))) (sym alone)
+-- what a command of values gives, by whether it takes so many arguments
+abbrev answered_if : Bool → Command → Process (Option (Items Things)) → Process Plain
+answered_if b c given = if b then given >>= (λ values. plain_alone values (λ ds. ask (calls c ds))) else refuses WrongCount
 
--- a call of a command that takes an arrow
-pub call_folds : (env : Vars) (name : List ℕ) (gs : List Arg) (fold : Folding) → folding_named name ≡ Some fold → eval_folding env (arguments_of gs) fold ≡ eval env (call name (arguments_of gs))
-call_folds env name gs fold looked_up = ap (λ o. called o name (argument_count (arguments_of gs)) (eval_given env (arguments_of gs)) (eval_folding env (arguments_of gs))) (sym looked_up)
+-- a command that takes so many arguments goes on
+pub count_right : (env : Vars) (c : Command) (gs : List Arg) → takes c (length gs) ≡ true
+    → eval_given env (arguments_of gs) >>= (λ values. plain_alone values (λ ds. ask (calls c ds))) ≡ answered c (argument_count (arguments_of gs)) (eval_given env (arguments_of gs))
+count_right env c gs right = ap (λ b. answered_if b c (eval_given env (arguments_of gs))) (sym (ap (takes c) (count-arguments gs) ∙ right))
+
+-- one that does not is refused
+pub count_wrong : (env : Vars) (c : Command) (gs : List Arg) → takes c (length gs) ≡ false → refuses WrongCount ≡ answered c (argument_count (arguments_of gs)) (eval_given env (arguments_of gs))
+count_wrong env c gs wrong = ap (λ b. answered_if b c (eval_given env (arguments_of gs))) (sym (ap (takes c) (count-arguments gs) ∙ wrong))
 
 -- refused at once
 pub evaluates_refuses : {Y B : Type 0} (view : Named → Y → B) (known : Named → Y → Type 0) (e : Fault) (s : State) → Evaluates view known (Err (Script e)) s s (λ names. refuses e)

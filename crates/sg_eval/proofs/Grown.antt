@@ -1,6 +1,5 @@
 -- What an assignment does whose variable's list grows in its place.
 use Rattle.std.proofs.Common.{◌≡◌, ◌∷◌, ℕ, List, [], Option, Some, None, Result, Ok, Err, IsErrAnd, Vec, Global, refl, ap, ap₂, sym, ◌∙◌, subst}
-use Rattle.std.specs.Prelude.{codes}
 use Rattle.std.specs.Map.{lookup}
 use Rattle.std.specs.Str.{bytes_eq}
 use Rattle.std.proofs.Math.Path.{fun_ext}
@@ -10,7 +9,9 @@ use Rattle.sg_value.specs.Plain.{Named, AllKnown, plain, plain_of_all, Things}
 use Rattle.sg_value.specs.declared.value.Value.{Value}
 use Rattle.sg_store.specs.Interned.{Keeps}
 use Rattle.sg_rows.specs.Order.{Plain}
+use Rattle.sg_lists.specs.declared.lists.ListCommand.TheVariants.{Concatenation}
 use Rattle.sg_rows.specs.declared.fault.CallFault.{CallFault}
+use Rattle.sg_calls.specs.declared.command.Command.TheVariants.{Lists}
 use Rattle.sg_rows.specs.declared.fault.Fault.TheVariants.{WrongType}
 use Rattle.sg_tree.specs.Tree.{Arguments}
 use Rattle.sg_eval.specs.declared.step_fault.StepFault.{StepFault}
@@ -84,7 +85,7 @@ module _ (s : State) (x : List ℕ) (others : Arguments) (o : Option (List ℕ))
     module _ (s1 s2 : State) (lists : Vec Value Global) (given : Evaluates plain_where known_where (Ok (Some lists)) s s1 (λ names. eval_given s.parameters others)) (names : s2.names ≡ s1.names) where
       -- what the command is asked for, over the values that were found
       abbrev asked : Process Plain
-      asked = ask (calls (codes "Concatenation") (item (plain (named s.names) v) (plain_of_all (named s1.names) lists.items)))
+      asked = ask (calls (Lists Concatenation) (item (plain (named s.names) v) (plain_of_all (named s1.names) lists.items)))
 
       after_given : (r : Result (Unit {0}) StepFault) → Executed r s1 s2 o o (asked >>= setting x) → Executed r s s2 o o (eval [] (onto x others) >>= setting x)
       after_given r h =
@@ -95,10 +96,10 @@ module _ (s : State) (x : List ℕ) (others : Arguments) (o : Option (List ℕ))
       of_found : (r : Result Value CallFault) → Evaluates plain AllKnown r s1 s1 (λ names. joined_onto x (plain_of_all names lists.items)) → Evaluates plain AllKnown r s1 s1 (λ names. asked)
       of_found r h =
           let outside = given.parameters ∙ none in
-          let still = subst (λ ps. Evaluates plain AllKnown r s1 s1 (λ names. looked_up (lookup (bytes_eq x) ps) x >>= (λ d. ask (calls (codes "Concatenation") (item d (plain_of_all names lists.items)))))) (sym outside) h in
-          evaluates_later plain AllKnown r s1 s1 (λ names. ask (calls (codes "Concatenation") (item (plain names v) (plain_of_all names lists.items)))) (λ names. asked)
-          (λ final later. ap₂ (λ (d : Plain) (ds : Items Things). ask (calls (codes "Concatenation") (item d ds))) (plain_later s.names final v (keeps_then s.names s1.names final given.keeps later) found.is_known) (plain_of_all_later s1.names final lists.items later given.is_known))
-          (entry_only s s1 x v r given.parameters given.variables given.keeps (λ names d. ask (calls (codes "Concatenation") (item d (plain_of_all names lists.items)))) found still)
+          let still = subst (λ ps. Evaluates plain AllKnown r s1 s1 (λ names. looked_up (lookup (bytes_eq x) ps) x >>= (λ d. ask (calls (Lists Concatenation) (item d (plain_of_all names lists.items)))))) (sym outside) h in
+          evaluates_later plain AllKnown r s1 s1 (λ names. ask (calls (Lists Concatenation) (item (plain names v) (plain_of_all names lists.items)))) (λ names. asked)
+          (λ final later. ap₂ (λ (d : Plain) (ds : Items Things). ask (calls (Lists Concatenation) (item d ds))) (plain_later s.names final v (keeps_then s.names s1.names final given.keeps later) found.is_known) (plain_of_all_later s1.names final lists.items later given.is_known))
+          (entry_only s s1 x v r given.parameters given.variables given.keeps (λ names d. ask (calls (Lists Concatenation) (item d (plain_of_all names lists.items)))) found still)
 
       -- the lists are refused
       pub growth_refused : (r : Result (Unit {0}) StepFault) (e : CallFault) → IsErrAnd r (λ y. y ≡ step_fault e) → Grows (Err e) s1 s2.variables x (λ names. joined_onto x (plain_of_all names lists.items))

@@ -8,9 +8,9 @@ use Rattle.sg_value.specs.Plain.{Named, AllKnown, AllKnownIn, contents, plain, p
 use Rattle.sg_value.specs.declared.value.Value.{Value}
 use Rattle.sg_store.specs.Interned.{Keeps}
 use Rattle.sg_rows.specs.Order.{Plain, Reply, IsReply}
-use Rattle.sg_calls.specs.Commands.{checked, command_named}
+use Rattle.sg_calls.specs.Rows.{row}
+use Rattle.sg_calls.specs.declared.command.Command.{Command}
 use Rattle.sg_rows.specs.Entries.{entry_count}
-use Rattle.sg_calls.specs.Answers.{Answer, reply_unless, case_of}
 use Rattle.sg_meaning.specs.Expressions.{looked_up, known}
 use Rattle.sg_meaning.specs.Process.{Runs}
 use Rattle.sg_eval.specs.Outcomes.{Evaluates}
@@ -33,12 +33,9 @@ pub entry_count-plain : (names : Named) (vs : List Value) → entry_count (plain
 entry_count-plain names [] = refl
 entry_count-plain names (v ∷ vs) = ap suc (entry_count-plain names vs)
 
--- the reply to a call whose name and number of arguments are right
-pub call_answered : (a b : Known) (vs : List Value) (name : List ℕ) (t : Reply) → Keeps a b → AllKnownIn (named a) vs → checked name (length vs) ≡ None
-    → IsReply (case_of (command_named name) (plain_of_all (named a) vs)) t → Answer name (plain_of_all (named b) vs) t
-call_answered a b vs name t kept is_known right h =
-    subst (λ ds. Answer name ds t) (sym (plain_of_all_later a b vs kept is_known))
-    (subst (λ o. reply_unless o (plain_of_all (named a) vs) (command_named name) t) (sym (ap (checked name) (entry_count-plain (named a) vs) ∙ right)) h)
+-- the reply of a command, over a later store
+pub row_answered : (a b : Known) (vs : List Value) (c : Command) (t : Reply) → Keeps a b → AllKnownIn (named a) vs → IsReply (row c (plain_of_all (named a) vs)) t → IsReply (row c (plain_of_all (named b) vs)) t
+row_answered a b vs c t kept is_known h = subst (λ ds. IsReply (row c ds) t) (sym (plain_of_all_later a b vs kept is_known)) h
 
 -- a copy of a value
 pub copy_plain : (names : Named) (v w : Value) → contents w ≡ contents v → plain names w ≡ plain names v

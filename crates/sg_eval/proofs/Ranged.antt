@@ -6,6 +6,7 @@ use mir.Val.{to_z, of_z}
 use Rattle.std.proofs.lemmas.Int.{to_z-of_z, to_z_pos}
 use Rattle.std.proofs.Math.IntN.{+ℤ_assoc, +ℤ_idr}
 use Rattle.std.proofs.Math.Path.{fun_ext}
+use Rattle.sg_value.specs.declared.limits.TheConstants.{WEIGHT_LIMIT}
 use Rattle.sg_value.specs.Known.{named}
 use Rattle.sg_value.specs.Data.{EachThing, int, list, none, item, data_map, Items}
 use Rattle.sg_value.specs.Plain.{Named, Things, AllKnown, IsKnown, Entries, plain, thing_at}

@@ -7,6 +7,7 @@ use Rattle.std.proofs.lemmas.Int.{ints}
 use Rattle.std.proofs.Math.IntN.{+ℤ_assoc, +ℤ_idr}
 use Rattle.sg_value.specs.Data.{int, list, none, item, items_map, depth_of_all, weight_of_all, EachThingOfAll, Kind, join}
 use Rattle.sg_value.specs.Plain.{Named, Things, contents, contents_of_all, plain, thing_at}
+use Rattle.sg_value.specs.declared.limits.TheConstants.{WEIGHT_LIMIT}
 use Rattle.sg_value.specs.declared.value.Value.{Value}
 use Rattle.sg_value.proofs.Joins.{contents_of_all-append}
 use Rattle.sg_rows.specs.Order.{Reply, fits, IsReply, Delivers}
@@ -61,13 +62,13 @@ module _ (x : ℤ) (k : ℕ) where
   spanned_as : (r : Reply) → Delivers (list (integers_from x k)) r → IsReply (fits (answers (λ d. d ≡ list (integers_from x k)))) r
   spanned_as r h = delivered (answers (λ d. d ≡ list (integers_from x k))) (list (integers_from x k)) r (answers_pass (λ d. d ≡ list (integers_from x k))) refl h
 
-  spanned_large : 4194304 ≤ k → IsReply (fits (answers (λ d. d ≡ list (integers_from x k)))) (Err TooLarge)
+  spanned_large : WEIGHT_LIMIT ≤ k → IsReply (fits (answers (λ d. d ≡ list (integers_from x k)))) (Err TooLarge)
   spanned_large heavy =
       let e = integers_depth x k in
       let w = integers_weight x k in
       spanned_as (Err TooLarge) (inr ((λ f. f tt), inr ((λ deep. absurd (omega (arith, e, deep))), inl (omega (arith, w, heavy), refl))))
 
-  spanned_fine : k < 4194304 → IsReply (fits (answers (λ d. d ≡ list (integers_from x k)))) (Ok (list (integers_from x k)))
+  spanned_fine : k < WEIGHT_LIMIT → IsReply (fits (answers (λ d. d ≡ list (integers_from x k)))) (Ok (list (integers_from x k)))
   spanned_fine light =
       let e = integers_depth x k in
       let w = integers_weight x k in
@@ -101,18 +102,18 @@ within_at x y (pos k) n i fit_x fit_y is count h = let up : i ≤ k = omega (ari
 within_at x y (negsuc k) n i fit_x fit_y is count h = absurd (omega (arith, count, h))
 
 -- the integers between two are in 64 bits
-pub range_within : (x y : ℤ) (n : ℕ) → FitsSigned w64 x → FitsSigned w64 y → n ≡ min (span_count (y -ℤ x)) (2 ^ 64 - 1) → n < 4194304 → IsRange (record { first = x; count = n })
+pub range_within : (x y : ℤ) (n : ℕ) → FitsSigned w64 x → FitsSigned w64 y → n ≡ min (span_count (y -ℤ x)) (2 ^ 64 - 1) → n < WEIGHT_LIMIT → IsRange (record { first = x; count = n })
 range_within x y n fit_x fit_y count light = record { few = light; within = λ i h. within_at x y (y -ℤ x) n i fit_x fit_y refl count h }
 
 module _ (a b : Value) (s : State) (x y : ℤ) (is_a : as_integer (contents a) ≡ Some x) (is_b : as_integer (contents b) ≡ Some y) (n : ℕ) (count : n ≡ min (span_count (y -ℤ x)) (2 ^ 64 - 1)) where
   -- there are too many
-  pub span_large : 4194304 ≤ n → Evaluates list_of_range is_range (Err (Script TooLarge)) s s (λ names. ask (spans (plain names a) (plain names b)))
+  pub span_large : WEIGHT_LIMIT ≤ n → Evaluates list_of_range is_range (Err (Script TooLarge)) s s (λ names. ask (spans (plain names a) (plain names b)))
   span_large heavy = refused_as a b s TooLarge (λ names. span_seen a b x y names (Err TooLarge) is_a is_b (spanned_large x (span_count (y -ℤ x)) (omega (arith, count, heavy))))
 
   -- there are few enough
   pub span_fine : (range : IsRange (record { first = x; count = n })) → Evaluates list_of_range is_range (Ok (record { first = x; count = n })) s s (λ names. ask (spans (plain names a) (plain names b)))
   span_fine range =
-      let light : n < 4194304 = range.few in
+      let light : n < WEIGHT_LIMIT = range.few in
       let k = span_count (y -ℤ x) in
       let same : n ≡ k = omega (arith, count, light) in
       record {

@@ -7,8 +7,8 @@ use Rattle.sg_rows.specs.declared.fault.Fault.TheVariants.{WrongType}
 use Rattle.sg_rows.specs.Kinds.{as_list}
 use Rattle.sg_rows.specs.Order.{Plain}
 use Rattle.sg_rows.specs.Entries.{entry_count}
-use Rattle.sg_meaning.specs.declared.folding.Folding.{Folding}
-use Rattle.sg_meaning.specs.declared.folding.Folding.TheVariants.{EachValue, ThoseTrue, AllTrue, AnyTrue, CountTrue}
+use Rattle.sg_calls.specs.declared.command.Folding.{Folding}
+use Rattle.sg_calls.specs.declared.command.Folding.TheVariants.{EachValue, ThoseTrue, AllTrue, AnyTrue, CountTrue}
 use Rattle.sg_meaning.specs.Expressions.{eval, folded, decided, listed, ask}
 use Rattle.sg_meaning.specs.Process.{Process, gives, refuses, ◌>>=◌}
 use Rattle.sg_meaning.specs.Queries.{lists}

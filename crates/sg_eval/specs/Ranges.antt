@@ -3,6 +3,7 @@ use Rattle.std.specs.Prelude.{ℕ, ◌<◌, pos, ◌+ℤ◌, FitsSigned}
 use Rattle.std.specs.Int.{w64}
 use Rattle.sg_value.specs.Data.{Items, list}
 use Rattle.sg_value.specs.Plain.{Named, Things}
+use Rattle.sg_value.specs.declared.limits.TheConstants.{WEIGHT_LIMIT}
 use Rattle.sg_rows.specs.Order.{Plain}
 use Rattle.sg_rows.specs.Kinds.{as_list}
 use Rattle.sg_meaning.specs.Expressions.{ask, listed}
@@ -16,7 +17,7 @@ use Rattle.sg_eval.specs.declared.sequence.Sequence.TheVariants.{Listed, Counted
 
 -- each integer of a range is in 64 bits, and a list of them is not too heavy
 pub record IsRange (r : Range) : Type 0 where
-  pub few : r.count < 4194304
+  pub few : r.count < WEIGHT_LIMIT
   pub within : (i : ℕ) → i < r.count → FitsSigned w64 (r.first +ℤ pos i)
 
 -- a range as the list of its integers, which no store is asked for

@@ -20,15 +20,9 @@ use crate::kinds::{into_entries, truth_of};
 use sg_calls::{CallFault, Fault, negate};
 use sg_nat::Bytes;
 use sg_rows::{entries_of, integer_of};
-use sg_value::{Items, Value, depth, try_clone, weight};
+use sg_value::{Items, NESTING_LIMIT, Value, WEIGHT_LIMIT, depth, try_clone, weight};
 use std::alloc::{AllocError, Global};
 use std::rc::Rc;
-
-/// How deep lists may nest.
-const DEPTH_LIMIT: u64 = 64;
-
-/// How heavy a list may be.
-const WEIGHT_LIMIT: u64 = 4_194_304;
 
 /// The text of these bytes.
 pub fn text_of(alloc: Global, bytes: &Bytes) -> Result<Value, AllocError>
@@ -42,7 +36,7 @@ pub fn list_of(alloc: Global, values: Vec<Value>) -> Result<Value, CallFault>
     ensures { (s : State) → AllKnownIn (named s.names) values.items → Evaluates plain AllKnown result s s (λ names. ask (lists (plain_of_all names values.items))) }
 {
     let list = Value::List(Items::from_vec(alloc, values)?);
-    if depth(&list) > DEPTH_LIMIT {
+    if depth(&list) > NESTING_LIMIT {
         return Err(CallFault::Script(Fault::Depth));
     }
     if weight(&list) > WEIGHT_LIMIT {
@@ -177,7 +171,7 @@ fn count_between(first: i64, last: i64) -> u64
 /// So many integers from the first on.
 fn integers_from(alloc: Global, first: i64, count: u64) -> Result<Vec<Value>, AllocError>
     requires within { (i : ℕ) → i < count → FitsSigned w64 (first +ℤ pos i) }
-    requires small { count < 4194304 }
+    requires small { count < WEIGHT_LIMIT }
     ensures { IfOk result (λ vs. contents_of_all vs.items ≡ integers_from first count) }
 {
     let mut values = Vec::with_capacity(alloc, count as usize)?;

@@ -8,7 +8,8 @@ ghost use Rattle.sg_value.specs.Plain.{AllKnown, AllKnownIn, plain, plain_of_all
 ghost use Rattle.sg_tree.specs.TreeView.{tree_of, code_of, block_of, arms_of, arguments_of};
 ghost use Rattle.sg_tree.specs.Tree.{assign as assigning};
 ghost use Rattle.sg_meaning.specs.Process.{sets};
-ghost use Rattle.sg_meaning.specs.Statements.{exec as meaning, exec_all as meaning_of_all, done, over};
+ghost use Rattle.sg_calls.specs.Commands.{word_named};
+ghost use Rattle.sg_meaning.specs.Statements.{exec as meaning, exec_all as meaning_of_all, done, is_print, over};
 ghost use Rattle.sg_eval.specs.Steps.{Executed, arm_done, held, listed_of, print_done, printed_arguments, IsOutside, IsInside};
 ghost use Rattle.sg_eval.specs.Outcomes.{Evaluates};
 ghost use Rattle.sg_meaning.specs.Entries.{integers_from};
@@ -23,7 +24,7 @@ use crate::growth::{grow, others_onto};
 use crate::integers::integer;
 use crate::machine::Machine;
 use crate::step_fault::StepFault;
-use sg_calls::{CallFault, Fault};
+use sg_calls::{CallFault, Fault, Word, word_named};
 use sg_io::{Sink, SinkFault, write_whole};
 use sg_nat::Bytes;
 use sg_tree::{Arg, Expr, Stmt};
@@ -189,13 +190,23 @@ fn list_of(alloc: Global, machine: &mut Machine, e: &Expr) -> Result<Sequence, C
     Ok(Sequence::Listed(entries(value)?))
 }
 
+/// Whether the name stands for the statement that prints.
+fn is_print(name: &[u8]) -> bool
+    ensures { result ≡ is_print (word_named name.now) }
+{
+    match word_named(name) {
+        Some(Word::Print) => true,
+        Some(Word::Arrow(_)) | Some(Word::Command(_)) | None => false,
+    }
+}
+
 /// The arguments of a call of `Print`.
 fn printed_arguments(e: &Expr) -> Option<&[Arg]>
     ensures { MatchOption result (printed_arguments (tree_of e.now) ≡ None) (λ args. printed_arguments (tree_of e.now) ≡ Some (arguments_of args.now)) }
 {
     match e {
         Expr::Call(name, args) => {
-            if name.as_slice() == b"Print".as_slice() {
+            if is_print(name.as_slice()) {
                 return Some(args.as_slice());
             }
             None

@@ -4,7 +4,6 @@ ghost use Rattle.std.specs.Prelude.{◌≡◌, OnOk, IfOk, slice_get};
 ghost use Rattle.sg_value.specs.Known.{named};
 ghost use Rattle.sg_value.specs.Plain.{AllKnown, AllKnownIn, contents, contents_of_all, plain, plain_of_all};
 ghost use Rattle.sg_value.specs.Data.{join};
-ghost use Rattle.sg_meaning.specs.Expressions.{folding_named};
 ghost use Rattle.sg_eval.specs.Folded.{goes_on, gathered_at, finished, is_true, listed_if};
 ghost use Rattle.sg_eval.specs.Given.{plain_if, known_if};
 ghost use Rattle.sg_meaning.specs.Process.{gives};
@@ -13,8 +12,7 @@ ghost use Rattle.sg_eval.specs.Truths.{itself, no_semigroup};
 ghost use Rattle.sg_eval.specs.Outcomes.{Evaluates, plain_items, known_items};
 
 use crate::answers::{decide, entries, list_of, put};
-use sg_calls::{CallFault, Fault};
-use sg_meaning::Folding;
+use sg_calls::{CallFault, Fault, Folding};
 use sg_value::{Items, Value, try_clone};
 use std::alloc::{AllocError, Global};
 

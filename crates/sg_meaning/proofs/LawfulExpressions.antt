@@ -9,20 +9,23 @@ use Rattle.sg_value.specs.Data.{int, truth as a_truth, text, list, fail, semigro
 use Rattle.sg_tree.specs.Tree.{Tree, number, quoted, truth, failing, variable, call, display, span, item as item_tree, minus, negation, chain, compare, Trees, no_trees, tree, plain, arrow, Arguments, no_arguments, argument, Links, no_links, link}
 use Rattle.sg_tree.specs.declared.expr.Op.TheVariants.{Or, And, Plus, Less, Times, Mod}
 use Rattle.sg_calls.specs.declared.operator.Operator.TheVariants as operator
-use Rattle.sg_rows.specs.declared.fault.Fault.{Fault}
+use Rattle.sg_rows.specs.declared.fault.Fault.TheVariants.{WrongCount}
 use Rattle.sg_rows.specs.Order.{Plain, Reply}
 use Rattle.sg_rows.specs.Kinds.{as_list}
 use Rattle.sg_rows.specs.Entries.{entry_count}
 use Rattle.sg_rows.specs.Lawful.{IsLawful, AreLawful, IsLawfulReply, IsLawfulThing}
 use Rattle.sg_rows.proofs.KindLemmas.{as_list-each}
-use Rattle.sg_calls.specs.Commands.{checked}
+use Rattle.sg_calls.specs.Commands.{takes, word_named}
 use Rattle.sg_meaning.specs.Queries.{Query, calls, combines, negates, lists, spans, indexes}
 use Rattle.sg_meaning.specs.Process.{Process, gives, refuses, ◌>>=◌}
 use Rattle.sg_meaning.specs.Vars.{Vars}
 use Rattle.sg_meaning.specs.Lawful.{AreLawfulVars, IsLawfulQuery}
-use Rattle.sg_meaning.specs.declared.folding.Folding.{Folding}
-use Rattle.sg_meaning.specs.declared.folding.Folding.TheVariants.{EachValue, ThoseTrue, AllTrue, AnyTrue, CountTrue}
-use Rattle.sg_meaning.specs.Expressions.{known, looked_up, replied, ask, decided, listed, negated, turned, relation, unless, plain_alone, argument_count, folding_named, called, values_over, true_over, is_each, folded, eval, eval_all, eval_places, eval_links, eval_given, eval_folding}
+use Rattle.sg_calls.specs.declared.command.Command.{Command}
+use Rattle.sg_calls.specs.declared.command.Folding.{Folding}
+use Rattle.sg_calls.specs.declared.command.Folding.TheVariants.{EachValue, ThoseTrue, AllTrue, AnyTrue, CountTrue}
+use Rattle.sg_calls.specs.declared.command.Word.{Word}
+use Rattle.sg_calls.specs.declared.command.Word.TheVariants as word
+use Rattle.sg_meaning.specs.Expressions.{known, looked_up, replied, ask, decided, listed, negated, turned, relation, plain_alone, argument_count, answered, called, values_over, true_over, is_each, folded, eval, eval_all, eval_places, eval_links, eval_given, eval_folding}
 use Rattle.sg_meaning.proofs.SomeEnd.{StaysLawful, then_lawful, value_at_lawful}
 
 known_lawful : (o : Option Plain) → IfSome o IsLawful → StaysLawful IsLawful (known o)
@@ -69,10 +72,6 @@ negated_lawful : (n : ℕ) (d : Plain) → IsLawful d → StaysLawful IsLawful (
 negated_lawful zero d h = h
 negated_lawful (suc n) d h = then_lawful IsLawful IsLawful (ask (negates d)) (negated n) (ask_lawful (negates d) h) (negated_lawful n)
 
-unless_lawful : {A : Type 0} (M : A → Type 0) (o : Option Fault) (p : Process A) → StaysLawful M p → StaysLawful M (unless o p)
-unless_lawful M (Some e) p h = tt
-unless_lawful M None p h = h
-
 -- all arguments, where none is an arrow
 abbrev pub AreLawfulIf : Option (Items Things) → Type 0
 AreLawfulIf o = IfSome o AreLawful
@@ -82,12 +81,17 @@ plain_alone_lawful : (o : Option (Items Things)) (f : Items Things → Process P
 plain_alone_lawful None f l h = tt
 plain_alone_lawful (Some ds) f l h = h ds l
 
-called_lawful : (o : Option Folding) (name : List ℕ) (n : ℕ) (args : Process (Option (Items Things))) (fold : Folding → Process Plain) →
-    StaysLawful AreLawfulIf args → ((f : Folding) → StaysLawful IsLawful (fold f)) → StaysLawful IsLawful (called o name n args fold)
-called_lawful (Some f) name n args fold h k = k f
-called_lawful None name n args fold h k = unless_lawful IsLawful (checked name n) (args >>= (λ values. plain_alone values (λ ds. ask (calls name ds))))
-    (then_lawful AreLawfulIf IsLawful args (λ values. plain_alone values (λ ds. ask (calls name ds))) h
-    (λ o l. plain_alone_lawful o (λ ds. ask (calls name ds)) l (λ ds m. ask_lawful (calls name ds) m)))
+answered_lawful : (c : Command) (n : ℕ) (args : Process (Option (Items Things))) → StaysLawful AreLawfulIf args → StaysLawful IsLawful (answered c n args)
+answered_lawful c n args h = if_lawful IsLawful (takes c n) (args >>= (λ values. plain_alone values (λ ds. ask (calls c ds)))) (refuses WrongCount)
+    (then_lawful AreLawfulIf IsLawful args (λ values. plain_alone values (λ ds. ask (calls c ds))) h
+    (λ o l. plain_alone_lawful o (λ ds. ask (calls c ds)) l (λ ds m. ask_lawful (calls c ds) m))) tt
+
+called_lawful : (w : Option Word) (n : ℕ) (args : Process (Option (Items Things))) (fold : Folding → Process Plain) →
+    StaysLawful AreLawfulIf args → ((f : Folding) → StaysLawful IsLawful (fold f)) → StaysLawful IsLawful (called w n args fold)
+called_lawful (Some (word.Arrow f)) n args fold h k = k f
+called_lawful (Some (word.Command c)) n args fold h k = answered_lawful c n args h
+called_lawful (Some word.Print) n args fold h k = tt
+called_lawful None n args fold h k = tt
 
 with_lawful : (d : Plain) (o : Option (Items Things)) → IsLawful d → IfSome o AreLawful → IfSome (option_map (item d) o) AreLawful
 with_lawful d None l h = tt
@@ -131,7 +135,7 @@ mutual
   eval_lawful env failing h = tt
   eval_lawful env (variable x) h = named_lawful (lookup (bytes_eq x) env) x (value_at_lawful env x h)
   eval_lawful env (call name args) h =
-      called_lawful (folding_named name) name (argument_count args) (eval_given env args) (eval_folding env args) (eval_given_lawful env args h) (λ f. eval_folding_lawful env args f h)
+      called_lawful (word_named name) (argument_count args) (eval_given env args) (eval_folding env args) (eval_given_lawful env args h) (λ f. eval_folding_lawful env args f h)
   eval_lawful env (display ts) h = then_lawful AreLawful IsLawful (eval_all env ts) (λ ds. ask (lists ds)) (eval_all_lawful env ts h) (λ ds l. ask_lawful (lists ds) l)
   eval_lawful env (span low high) h = then_lawful IsLawful IsLawful (eval env low) (λ a. eval env high >>= (λ b. ask (spans a b))) (eval_lawful env low h)
       (λ a l. then_lawful IsLawful IsLawful (eval env high) (λ b. ask (spans a b)) (eval_lawful env high h) (λ b m. ask_lawful (spans a b) (l, m)))

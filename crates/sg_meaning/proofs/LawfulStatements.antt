@@ -1,17 +1,17 @@
 -- Statements over lawful variables ask about lawful values, and leave lawful variables.
 use Rattle.std.proofs.Common.{ℕ, Bool, true, false, List, [], Option, Some, None}
 use Rattle.sg_value.specs.Plain.{Things}
-use Rattle.std.specs.Prelude.{codes, if◌then◌else◌, ⊤}
-use Rattle.std.specs.Str.{bytes_eq}
+use Rattle.std.specs.Prelude.{if◌then◌else◌, ⊤}
 use Rattle.sg_value.specs.Data.{Items, none, item}
 use Rattle.sg_tree.specs.Tree.{Tree, number, quoted, truth, failing, variable, call, display, span, minus, negation, chain, compare, item as item_tree, Arguments, Code, nothing, quit, assign, choose, each, perform, Arms, no_arms, arm, Block, skip, code}
 use Rattle.sg_rows.specs.Order.{Plain}
 use Rattle.sg_rows.specs.Kinds.{as_list}
 use Rattle.sg_rows.specs.Lawful.{IsLawful, AreLawful, IsLawfulThing}
 use Rattle.sg_rows.proofs.KindLemmas.{as_list-each}
+use Rattle.sg_calls.specs.Commands.{word_named}
 use Rattle.sg_meaning.specs.Process.{Process, gives, sets, ◌>>=◌}
 use Rattle.sg_meaning.specs.Expressions.{eval, eval_given, decided, listed}
-use Rattle.sg_meaning.specs.Statements.{on, printed, call_done, done, over, exec, exec_all, exec_arms, whole}
+use Rattle.sg_meaning.specs.Statements.{on, printed, is_print, call_done, done, over, exec, exec_all, exec_arms, whole}
 use Rattle.sg_meaning.specs.Lawful.{AreLawfulVars, SomeEnd}
 use Rattle.sg_meaning.specs.Vars.{Vars}
 use Rattle.sg_meaning.proofs.SomeEnd.{StaysLawful, then_lawful, end_some}
@@ -36,7 +36,7 @@ call_done_lawful true name args = then_lawful AreLawfulIf (λ a. ⊤) (eval_give
 call_done_lawful false name args = dropped_lawful (call name args)
 
 done_lawful : (t : Tree) → Fine (done t)
-done_lawful (call name args) = call_done_lawful (bytes_eq name (codes "Print")) name args
+done_lawful (call name args) = call_done_lawful (is_print (word_named name)) name args
 done_lawful (number z) = dropped_lawful (number z)
 done_lawful (quoted bs) = dropped_lawful (quoted bs)
 done_lawful (truth b) = dropped_lawful (truth b)

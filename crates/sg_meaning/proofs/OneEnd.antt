@@ -7,7 +7,8 @@ use Rattle.sg_rows.specs.Kinds.{as_integer, given}
 use Rattle.sg_rows.specs.Values.{answers}
 use Rattle.sg_rows.specs.declared.fault.Fault.{Fault}
 use Rattle.sg_rows.proofs.OneValue.{reply_one, given_one, is_one}
-use Rattle.sg_calls.proofs.OneReply.{operators_one, sign_one, commands_one}
+use Rattle.sg_calls.specs.Rows.{row}
+use Rattle.sg_calls.proofs.OneReply.{operators_one, sign_one, row_one}
 use Rattle.sg_meaning.specs.Entries.{integers_from}
 use Rattle.sg_meaning.specs.Queries.{Query, calls, combines, negates, lists, spans, indexes, IsAnswer, span_of, span_count}
 use Rattle.sg_meaning.specs.Process.{Process, gives, refuses, reads, asks, sets, writes, Runs}
@@ -15,7 +16,7 @@ use Rattle.sg_meaning.specs.Vars.{Vars, value_at, with_value}
 
 -- a query has at most one answer
 pub answer_one : (q : Query) (r s : Reply) → IsAnswer q r → IsAnswer q s → r ≡ s
-answer_one (calls name args) r s h k = commands_one name args r s h k
+answer_one (calls c args) r s h k = reply_one (row c args) (row_one c args) r s h k
 answer_one (combines op a b) r s h k = operators_one op a b r s h k
 answer_one (negates a) r s h k = sign_one a r s h k
 answer_one (lists ds) r s h k = reply_one (fits (answers (λ d. d ≡ list ds))) (is_one (list ds)) r s h k

@@ -11,7 +11,8 @@ use Rattle.sg_rows.specs.Values.{answers}
 use Rattle.sg_rows.specs.Lawful.{IsLawful, AreLawful, IsLawfulReply, SomeReply, IsLawfulThing}
 use Rattle.sg_rows.proofs.SomeValue.{reply_some, given_some, answers_some, is_some_value}
 use Rattle.sg_rows.proofs.KindLemmas.{any_some, as_list-each}
-use Rattle.sg_calls.proofs.SomeReply.{commands_some, operators_some, sign_some}
+use Rattle.sg_calls.specs.Rows.{row}
+use Rattle.sg_calls.proofs.SomeReply.{row_some, operators_some, sign_some}
 use Rattle.sg_meaning.specs.Lawful.{AreLawfulVars, IsLawfulQuery, SomeEnd}
 use Rattle.sg_meaning.specs.Process.{Process, gives, refuses, reads, asks, sets, writes, ◌>>=◌}
 use Rattle.sg_meaning.specs.Entries.{integers_from, entry_at}
@@ -42,7 +43,7 @@ item_lawful (Some ds) (Some (negsuc n)) h = tt
 
 -- a query about lawful values has an answer
 pub answer_some : (q : Query) → IsLawfulQuery q → SomeReply (IsAnswer q)
-answer_some (calls name args) h = commands_some name args h
+answer_some (calls c args) h = reply_some (row c args) (row_some c args h)
 answer_some (combines op a b) h = operators_some op a b h.0 h.1
 answer_some (negates a) h = sign_some a
 answer_some (lists ds) h = reply_some (fits (answers (λ d. d ≡ list ds))) (answers_some _ (is_some_value (list ds) h))

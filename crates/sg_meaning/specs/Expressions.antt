@@ -1,5 +1,5 @@
 -- What expressions do.
-use Rattle.std.specs.Prelude.{ℕ, zero, suc, Bool, true, false, not, List, [], ◌∷◌, codes, pos, Option, Some, None, Ok, Err, if◌then◌else◌}
+use Rattle.std.specs.Prelude.{ℕ, zero, suc, Bool, true, false, not, List, ◌∷◌, pos, Option, Some, None, Ok, Err, if◌then◌else◌}
 use Rattle.sg_value.specs.Plain.{Things}
 use Rattle.std.specs.Map.{lookup}
 use Rattle.std.specs.Str.{bytes_eq}
@@ -11,14 +11,16 @@ use Rattle.sg_tree.specs.declared.expr.Rel.{Rel}
 use Rattle.sg_tree.specs.declared.expr.Rel.TheVariants.{Eq, Ne, Lt, Le, Gt, Ge, Member}
 use Rattle.sg_calls.specs.declared.operator.Operator.{Operator}
 use Rattle.sg_calls.specs.declared.operator.Operator.TheVariants as operator
-use Rattle.sg_rows.specs.declared.fault.Fault.{Fault}
 use Rattle.sg_rows.specs.declared.fault.Fault.TheVariants.{UnknownName, WrongType, WrongCount}
 use Rattle.sg_rows.specs.Order.{Plain, Reply}
 use Rattle.sg_rows.specs.Kinds.{as_list}
-use Rattle.sg_calls.specs.Commands.{checked}
+use Rattle.sg_calls.specs.Commands.{takes, word_named}
 use Rattle.sg_rows.specs.Entries.{entry_count}
-use Rattle.sg_meaning.specs.declared.folding.Folding.{Folding}
-use Rattle.sg_meaning.specs.declared.folding.Folding.TheVariants.{EachValue, ThoseTrue, AllTrue, AnyTrue, CountTrue}
+use Rattle.sg_calls.specs.declared.command.Command.{Command}
+use Rattle.sg_calls.specs.declared.command.Folding.{Folding}
+use Rattle.sg_calls.specs.declared.command.Folding.TheVariants.{EachValue, ThoseTrue, AllTrue, AnyTrue, CountTrue}
+use Rattle.sg_calls.specs.declared.command.Word.{Word}
+use Rattle.sg_calls.specs.declared.command.Word.TheVariants as word
 use Rattle.sg_meaning.specs.Queries.{Query, calls, combines, negates, lists, spans, indexes}
 use Rattle.sg_meaning.specs.Process.{Process, gives, refuses, reads, asks, ◌>>=◌}
 use Rattle.sg_meaning.specs.Vars.{Vars}
@@ -73,11 +75,6 @@ relation Gt = operator.Gt
 relation Ge = operator.Ge
 relation Member = operator.Member
 
--- a call is refused for its name or for the number of its arguments, or goes on
-abbrev pub unless : {A : Type 0} → Option Fault → Process A → Process A
-unless (Some e) p = refuses e
-unless None p = p
-
 -- the arguments of a command, none of which may be an arrow
 abbrev pub plain_alone : Option (Items Things) → (Items Things → Process Plain) → Process Plain
 plain_alone None f = refuses WrongType
@@ -87,23 +84,16 @@ abbrev pub argument_count : Arguments → ℕ
 argument_count no_arguments = 0
 argument_count (argument a others) = suc (argument_count others)
 
--- the commands whose second argument is an arrow
-abbrev pub foldings : List (List ℕ × Folding)
-foldings =
-    (codes "List", EachValue)
-    ∷ (codes "Filtered", ThoseTrue)
-    ∷ (codes "ForAll", AllTrue)
-    ∷ (codes "ForAny", AnyTrue)
-    ∷ (codes "Number", CountTrue)
-    ∷ []
+-- a command of values, by how many arguments it has and what they give
+abbrev pub answered : Command → ℕ → Process (Option (Items Things)) → Process Plain
+answered c count given = if takes c count then given >>= (λ values. plain_alone values (λ ds. ask (calls c ds))) else refuses WrongCount
 
-abbrev pub folding_named : List ℕ → Option Folding
-folding_named name = lookup (bytes_eq name) foldings
-
--- a call of a command, by what its arguments give; a command with an arrow is answered here
-abbrev pub called : Option Folding → List ℕ → ℕ → Process (Option (Items Things)) → (Folding → Process Plain) → Process Plain
-called (Some f) name count given fold = fold f
-called None name count given fold = unless (checked name count) (given >>= (λ values. plain_alone values (λ ds. ask (calls name ds))))
+-- a call, by what its name stands for; a command with an arrow is answered here, and Print is a whole statement alone
+abbrev pub called : Option Word → ℕ → Process (Option (Items Things)) → (Folding → Process Plain) → Process Plain
+called (Some (word.Arrow f)) count given fold = fold f
+called (Some (word.Command c)) count given fold = answered c count given
+called (Some word.Print) count given fold = refuses UnknownName
+called None count given fold = refuses UnknownName
 
 -- over the entries in their order, with what an arrow gives of each
 abbrev pub values_over : (Plain → Process Plain) → Items Things → Process (Items Things)
@@ -133,7 +123,7 @@ abbrev mutual
   eval env (truth b) = gives (a_truth b)
   eval env failing = gives fail
   eval env (variable x) = looked_up (lookup (bytes_eq x) env) x
-  eval env (call name args) = called (folding_named name) name (argument_count args) (eval_given env args) (eval_folding env args)
+  eval env (call name args) = called (word_named name) (argument_count args) (eval_given env args) (eval_folding env args)
   eval env (display ts) = eval_all env ts >>= (λ ds. ask (lists ds))
   eval env (span low high) = eval env low >>= (λ a. eval env high >>= (λ b. ask (spans a b)))
   eval env (item_tree t places) = eval env t >>= (λ d. eval_places env d places)

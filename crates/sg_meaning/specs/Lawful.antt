@@ -13,7 +13,7 @@ AreLawfulVars (v ∷ vs) = IsLawful v.1 × AreLawfulVars vs
 
 -- all that is asked about is lawful
 abbrev pub IsLawfulQuery : Query → Type 0
-IsLawfulQuery (calls name args) = AreLawful args
+IsLawfulQuery (calls c args) = AreLawful args
 IsLawfulQuery (combines op a b) = IsLawful a × IsLawful b
 IsLawfulQuery (negates a) = IsLawful a
 IsLawfulQuery (lists ds) = AreLawful ds

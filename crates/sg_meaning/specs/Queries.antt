@@ -1,19 +1,20 @@
 -- What a statement asks for while it runs, and what is answered.
-use Rattle.std.specs.Prelude.{◌≡◌, ℕ, zero, suc, ℤ, pos, negsuc, ◌-ℤ◌, ◌+ℤ◌, List, Option, Some, None, Ok, Err}
+use Rattle.std.specs.Prelude.{◌≡◌, ℕ, suc, ℤ, pos, negsuc, ◌-ℤ◌, Option, Some, None, Ok, Err}
 use Rattle.sg_value.specs.Plain.{Things}
-use Rattle.sg_value.specs.Data.{int, list, Items, none, item}
+use Rattle.sg_value.specs.Data.{list, Items}
 use Rattle.sg_rows.specs.Order.{Plain, Reply, Case, fits, IsReply}
 use Rattle.sg_rows.specs.Kinds.{given, as_integer, as_list}
 use Rattle.sg_rows.specs.Values.{answers}
 use Rattle.sg_meaning.specs.Entries.{entry_at_integer, integers_from}
 use Rattle.sg_calls.specs.Operations.{operation, negation}
-use Rattle.sg_calls.specs.Answers.{Answer}
+use Rattle.sg_calls.specs.Rows.{row}
+use Rattle.sg_calls.specs.declared.command.Command.{Command}
 use Rattle.sg_calls.specs.declared.operator.Operator.{Operator}
 use Rattle.sg_rows.specs.declared.fault.Fault.TheVariants.{WrongType, IndexOut}
 
 pub data Query : Type 0 where
-  -- a command of arguments
-  calls : List ℕ → Items Things → Query
+  -- a command of values, of arguments
+  calls : Command → Items Things → Query
   -- an operator of two operands
   combines : Operator → Plain → Plain → Query
   -- the minus sign
@@ -45,7 +46,7 @@ item_of (Some ds) (Some z) = found_or_out (entry_at_integer ds z)
 
 -- the reply to a query
 abbrev pub IsAnswer : Query → Reply → Type 0
-IsAnswer (calls name args) r = Answer name args r
+IsAnswer (calls c args) r = IsReply (row c args) r
 IsAnswer (combines op a b) r = IsReply (operation op a b) r
 IsAnswer (negates a) r = IsReply (negation a) r
 IsAnswer (lists ds) r = IsReply (fits (answers (λ d. d ≡ list ds))) r

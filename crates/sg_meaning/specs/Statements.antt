@@ -1,13 +1,15 @@
 -- What statements do.
-use Rattle.std.specs.Prelude.{ℕ, Bool, true, false, List, [], ◌++◌, codes, Option, Some, None, if◌then◌else◌}
+use Rattle.std.specs.Prelude.{ℕ, Bool, true, false, List, [], ◌++◌, Option, Some, None, if◌then◌else◌}
 use Rattle.sg_value.specs.Plain.{Things}
-use Rattle.std.specs.Str.{bytes_eq}
 use Rattle.sg_value.specs.Data.{Items, none, item}
 use Rattle.sg_value.specs.Text.{text_of}
 use Rattle.sg_tree.specs.Tree.{Tree, number, quoted, truth, failing, variable, call, display, span, minus, negation, chain, compare, item as item_tree, Arguments, Code, nothing, quit, assign, choose, each, perform, Arms, no_arms, arm, Block, skip, code}
 use Rattle.sg_rows.specs.declared.fault.Fault.TheVariants.{WrongType}
 use Rattle.sg_rows.specs.Order.{Plain}
 use Rattle.sg_rows.specs.Kinds.{as_list}
+use Rattle.sg_calls.specs.Commands.{word_named}
+use Rattle.sg_calls.specs.declared.command.Word.{Word}
+use Rattle.sg_calls.specs.declared.command.Word.TheVariants as word
 use Rattle.sg_meaning.specs.Process.{Process, gives, refuses, sets, writes, ◌>>=◌}
 use Rattle.sg_meaning.specs.Expressions.{eval, eval_given, decided, listed}
 
@@ -26,6 +28,13 @@ abbrev pub printed : Option (Items Things) → Process (Unit {0})
 printed None = refuses WrongType
 printed (Some ds) = writes (texts_of ds) (gives tt)
 
+-- whether a name stands for the statement that prints
+abbrev pub is_print : Option Word → Bool
+is_print (Some word.Print) = true
+is_print (Some (word.Arrow f)) = false
+is_print (Some (word.Command c)) = false
+is_print None = false
+
 -- a call of this name as a whole statement
 abbrev pub call_done : Bool → List ℕ → Arguments → Process (Unit {0})
 call_done true name args = eval_given [] args >>= printed
@@ -33,7 +42,7 @@ call_done false name args = eval [] (call name args) >>= (λ d. gives tt)
 
 -- a value is computed and dropped; Print is a whole statement, and known as no other expression
 abbrev pub done : Tree → Process (Unit {0})
-done (call name args) = call_done (bytes_eq name (codes "Print")) name args
+done (call name args) = call_done (is_print (word_named name)) name args
 done (number z) = eval [] (number z) >>= (λ d. gives tt)
 done (quoted bs) = eval [] (quoted bs) >>= (λ d. gives tt)
 done (truth b) = eval [] (truth b) >>= (λ d. gives tt)

@@ -4,10 +4,7 @@
 //! values and asks queries (`specs/Queries`): what a command or an operator answers, and the like. No store and no machine
 //! is mentioned. `laws` says that each has at most one outcome, and over lawful variables one.
 //!
-//! The layer above uses the definitions, the laws, and `folding_named`, the table of the commands with an arrow.
+//! The layer above uses the definitions and the laws. What a name stands for is in the table of `sg_calls`.
 #![tactic(auto)]
 
-mod folding;
 pub mod laws;
-
-pub use folding::{Folding, folding_named};

@@ -24,16 +24,16 @@ listed_so r vs s is_known h =
     evaluates_reply r s s (listing s.names vs) (λ names. lists (plain_of_all names vs)) (keeps_all s.names) refl refl
     (λ final later t g. subst (λ ds. IsReply (fits (answers (λ d. d ≡ list ds))) t) (sym (plain_of_all_later s.names final vs later is_known)) g) h
 
-pub returns-then-depth-gt-DEPTH_LIMIT : goal.returns-then-depth-gt-DEPTH_LIMIT
-returns-then-depth-gt-DEPTH_LIMIT c = λ s is_known.
-    listed_so (Err (Script Depth)) c.args.values.items s is_known (too_deep s.names c.args.values.items c.in_ok-from_vec.field-0 c.in_ok-from_vec.ensures c.depth.result c.depth.ensures c.if-depth-gt-DEPTH_LIMIT.true)
+pub returns-then-depth-gt-NESTING_LIMIT : goal.returns-then-depth-gt-NESTING_LIMIT
+returns-then-depth-gt-NESTING_LIMIT c = λ s is_known.
+    listed_so (Err (Script Depth)) c.args.values.items s is_known (too_deep s.names c.args.values.items c.in_ok-from_vec.field-0 c.in_ok-from_vec.ensures c.depth.result c.depth.ensures c.if-depth-gt-NESTING_LIMIT.true)
 
 pub returns-then-weight-gt-WEIGHT_LIMIT : goal.returns-then-weight-gt-WEIGHT_LIMIT
 returns-then-weight-gt-WEIGHT_LIMIT c = λ s is_known.
     listed_so (Err (Script TooLarge)) c.args.values.items s is_known
-    (too_heavy s.names c.args.values.items c.in_ok-from_vec.field-0 c.in_ok-from_vec.ensures c.depth.result c.weight.result c.depth.ensures c.if-depth-gt-DEPTH_LIMIT.false c.weight.ensures c.if-weight-gt-WEIGHT_LIMIT.true)
+    (too_heavy s.names c.args.values.items c.in_ok-from_vec.field-0 c.in_ok-from_vec.ensures c.depth.result c.weight.result c.depth.ensures c.if-depth-gt-NESTING_LIMIT.false c.weight.ensures c.if-weight-gt-WEIGHT_LIMIT.true)
 
 pub returns : goal.returns
 returns c = λ s is_known.
     listed_so (Ok (value.List c.in_ok-from_vec.field-0)) c.args.values.items s is_known
-    (within_limits s.names c.args.values.items c.in_ok-from_vec.field-0 c.in_ok-from_vec.ensures c.depth.result c.weight.result c.depth.ensures c.if-depth-gt-DEPTH_LIMIT.false c.weight.ensures c.if-weight-gt-WEIGHT_LIMIT.false is_known)
+    (within_limits s.names c.args.values.items c.in_ok-from_vec.field-0 c.in_ok-from_vec.ensures c.depth.result c.weight.result c.depth.ensures c.if-depth-gt-NESTING_LIMIT.false c.weight.ensures c.if-weight-gt-WEIGHT_LIMIT.false is_known)

@@ -142,14 +142,29 @@ argument-returns-in_err-eval-in-Plain = calls.argument-returns-in_err-eval-in-Pl
 pub argument-returns-in_ok-eval-in-Plain : goal.argument-returns-in_ok-eval-in-Plain
 argument-returns-in_ok-eval-in-Plain = calls.argument-returns-in_ok-eval-in-Plain
 
-pub call-returns-in-Some : goal.call-returns-in-Some
-call-returns-in-Some = calls.call-returns-in-Some
+pub call-returns-in-Some-Command : goal.call-returns-in-Some-Command
+call-returns-in-Some-Command = calls.call-returns-in-Some-Command
 
-pub call-returns-in-Some-check_call : goal.call-returns-in-Some-check_call
-call-returns-in-Some-check_call = calls.call-returns-in-Some-check_call
+pub call-returns-in-Some-Arrow : goal.call-returns-in-Some-Arrow
+call-returns-in-Some-Arrow = calls.call-returns-in-Some-Arrow
 
-pub call-returns-in_err-values : goal.call-returns-in_err-values
-call-returns-in_err-values = calls.call-returns-in_err-values
+pub call-returns-in-Some-Print : goal.call-returns-in-Some-Print
+call-returns-in-Some-Print = calls.call-returns-in-Some-Print
+
+pub call-returns-in-None : goal.call-returns-in-None
+call-returns-in-None = calls.call-returns-in-None
+
+pub command_call-returns-then-not-takes : goal.command_call-returns-then-not-takes
+command_call-returns-then-not-takes = calls.command_call-returns-then-not-takes
+
+pub command_call-returns-in_err-values : goal.command_call-returns-in_err-values
+command_call-returns-in_err-values = calls.command_call-returns-in_err-values
+
+pub command_call-returns-in-Some : goal.command_call-returns-in-Some
+command_call-returns-in-Some = calls.command_call-returns-in-Some
+
+pub command_call-returns-in-None : goal.command_call-returns-in-None
+command_call-returns-in-None = calls.command_call-returns-in-None
 
 pub given-loop-arg-init : goal.given-loop-arg-init
 given-loop-arg-init = calls.given-loop-arg-init
@@ -165,12 +180,6 @@ given-loop-arg-preserved = calls.given-loop-arg-preserved
 
 pub given-returns-clause-value : goal.given-returns-clause-value
 given-returns-clause-value = calls.given-returns-clause-value
-
-pub call-returns-in-Some-2 : goal.call-returns-in-Some-2
-call-returns-in-Some-2 = calls.call-returns-in-Some-2
-
-pub call-returns-in-None : goal.call-returns-in-None
-call-returns-in-None = calls.call-returns-in-None
 
 pub apply-unbind-requires : goal.apply-unbind-requires
 apply-unbind-requires = arrows.apply-unbind-requires

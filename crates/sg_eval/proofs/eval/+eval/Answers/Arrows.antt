@@ -24,7 +24,7 @@ use Rattle.sg_tree.proofs.ExpressionLevels.{view-Plain, view-Arrow, view-Call}
 use Rattle.sg_rows.specs.declared.fault.CallFault.TheVariants.{Script}
 use Rattle.sg_rows.specs.declared.fault.Fault.TheVariants.{WrongType, WrongCount}
 use Rattle.sg_eval.specs.Given.{plain_if, known_if, plain_where, known_where, eval_argument}
-use Rattle.sg_eval.proofs.GivenSteps.{arguments_of-drop, after_given, given_none, given_over, known_with, known_where_later, count_with, given_then, given_exit, call_right, call_wrong, call_folds, evaluates_refuses}
+use Rattle.sg_eval.proofs.GivenSteps.{arguments_of-drop, after_given, given_none, given_over, known_with, known_where_later, count_with, given_then, given_exit, evaluates_refuses}
 use Rattle.sg_eval.proofs.Steps.{trees_of-drop, links_of-drop, place_then, place_exit, value_then, value_exit, link_then, link_exit, link_as, unless_ended, front_none, front_over, after_front, all_known_more, link_rest, linked_as, linked_combines, rest_decides}
 use Rattle.sg_eval.specs.Truths.{itself, no_semigroup}
 use Rattle.sg_value.specs.Data.{none, item as item_of}

@@ -10,7 +10,7 @@ use Rattle.sg_value.specs.Plain.{AllKnown, AllKnownIn, IsKnown, plain, plain_of_
 use Rattle.sg_tree.specs.Tree.{call, variable, display, span, item, minus, negation, chain, compare}
 use Rattle.sg_tree.specs.TreeView.{tree_of, trees_of, links_of}
 use Rattle.sg_tree.proofs.ExpressionLevels.{view-Var, view-Display, view-Span, view-Item, view-Minus, view-Not, view-Chain, view-Compare}
-use Rattle.sg_meaning.specs.Expressions.{folded, eval, eval_all, eval_places, eval_links, negated, turned, decided, ask, relation, eval_given, eval_folding, plain_alone}
+use Rattle.sg_meaning.specs.Expressions.{folded, eval, eval_all, eval_places, eval_links, negated, turned, decided, ask, relation, eval_given, eval_folding, plain_alone, answered, argument_count}
 use Rattle.sg_eval.specs.Linked.{placed, linked, ends_chain, compared_with}
 use Rattle.sg_eval.specs.Machine.{state_of}
 use Rattle.sg_eval.specs.Outcomes.{Evaluates, plain_in, known_in, plain_items, known_items}
@@ -22,9 +22,11 @@ use Rattle.std.proofs.lemmas.List.{drop_all}
 use Rattle.sg_tree.specs.TreeView.{argument_of, arguments_of}
 use Rattle.sg_tree.proofs.ExpressionLevels.{view-Plain, view-Arrow, view-Call}
 use Rattle.sg_rows.specs.declared.fault.CallFault.TheVariants.{Script}
-use Rattle.sg_rows.specs.declared.fault.Fault.TheVariants.{WrongType, WrongCount}
+use Rattle.sg_rows.specs.declared.fault.Fault.TheVariants.{WrongType, WrongCount, UnknownName}
+use Rattle.sg_calls.specs.Commands.{word_named}
+use Rattle.sg_calls.specs.declared.command.Word.TheVariants as word
 use Rattle.sg_eval.specs.Given.{plain_if, known_if, plain_where, known_where, eval_argument}
-use Rattle.sg_eval.proofs.GivenSteps.{arguments_of-drop, after_given, given_none, given_over, known_with, known_where_later, count_with, given_then, given_exit, call_right, call_wrong, call_folds, evaluates_refuses}
+use Rattle.sg_eval.proofs.GivenSteps.{arguments_of-drop, after_given, given_none, given_over, known_with, known_where_later, count_with, given_then, given_exit, call_word, count_right, count_wrong, evaluates_refuses}
 use Rattle.sg_eval.proofs.Steps.{trees_of-drop, links_of-drop, place_then, place_exit, value_then, value_exit, link_then, link_exit, link_as, unless_ended, front_none, front_over, after_front, all_known_more, link_rest, linked_as, linked_combines, rest_decides}
 use Rattle.sg_eval.specs.Truths.{itself, no_semigroup}
 use Rattle.sg_value.specs.Data.{none, item as item_of}
@@ -56,30 +58,49 @@ argument-returns-in_ok-eval-in-Plain t c =
     (evaluates_then plain AllKnown plain_if known_if v (Ok (Some v)) s s1 s1 (λ names. eval s.parameters (tree_of c.in-Plain.e)) (λ names d. gives (Some d)) h
     (evaluates_gives plain_if known_if (Some v) s1 (λ names. Some (plain names v)) h.is_known (λ final later. refl)))
 
-pub call-returns-in-Some : goal.call-returns-in-Some
-call-returns-in-Some t c =
+pub call-returns-in-Some-Command : goal.call-returns-in-Some-Command
+call-returns-in-Some-Command t c =
     let s = state_of c.args.machine.now in
-    let fold = c.in-Some.fold in
-    evaluates_as plain AllKnown c.fold_call.result s (state_of c.fold_call.new.machine) (λ names. eval_folding s.parameters (arguments_of c.args.args.now) fold) (λ names. eval s.parameters (call c.args.name.now (arguments_of c.args.args.now)))
-    (λ names. call_folds s.parameters c.args.name.now c.args.args.now fold (sym c.in-Some.ensures)) c.fold_call.ensures
+    let args = arguments_of c.args.args.now in
+    evaluates_as plain AllKnown c.command_call.result s (state_of c.command_call.new.machine) (λ names. answered c.in-Some-Command.command (argument_count args) (eval_given s.parameters args)) (λ names. eval s.parameters (call c.args.name.now args))
+    (λ names. call_word s.parameters c.args.name.now c.args.args.now (Some (word.Command c.in-Some-Command.command)) (subst (λ w. Some w ≡ word_named c.args.name.now) c.in-Some-Command.field-0-is c.in-Some-Command.ensures)) c.command_call.ensures
 
-pub call-returns-in-Some-check_call : goal.call-returns-in-Some-check_call
-call-returns-in-Some-check_call t c =
+pub call-returns-in-Some-Arrow : goal.call-returns-in-Some-Arrow
+call-returns-in-Some-Arrow t c =
     let s = state_of c.args.machine.now in
-    let e = c.in-Some-check_call.fault in
-    evaluates_as plain AllKnown (Err (Script e)) s s (λ names. refuses e) (λ names. eval s.parameters (call c.args.name.now (arguments_of c.args.args.now)))
-    (λ names. call_wrong s.parameters c.args.name.now c.args.args.now e (sym c.in_default.ensures) (sym c.in-Some-check_call.ensures)) (evaluates_refuses plain AllKnown e s)
+    let args = arguments_of c.args.args.now in
+    evaluates_as plain AllKnown c.fold_call.result s (state_of c.fold_call.new.machine) (λ names. eval_folding s.parameters args c.in-Some-Arrow.fold) (λ names. eval s.parameters (call c.args.name.now args))
+    (λ names. call_word s.parameters c.args.name.now c.args.args.now (Some (word.Arrow c.in-Some-Arrow.fold)) (subst (λ w. Some w ≡ word_named c.args.name.now) c.in-Some-Arrow.field-0-is c.in-Some-Arrow.ensures)) c.fold_call.ensures
 
-pub call-returns-in_err-values : goal.call-returns-in_err-values
-call-returns-in_err-values t c =
+pub call-returns-in-Some-Print : goal.call-returns-in-Some-Print
+call-returns-in-Some-Print t c =
+    let s = state_of c.args.machine.now in
+    evaluates_as plain AllKnown (Err (Script UnknownName)) s s (λ names. refuses UnknownName) (λ names. eval s.parameters (call c.args.name.now (arguments_of c.args.args.now)))
+    (λ names. call_word s.parameters c.args.name.now c.args.args.now (Some word.Print) (subst (λ w. Some w ≡ word_named c.args.name.now) c.in-Some-Print.field-0-is c.in-Some-Print.ensures)) (evaluates_refuses plain AllKnown UnknownName s)
+
+pub call-returns-in-None : goal.call-returns-in-None
+call-returns-in-None t c =
+    let s = state_of c.args.machine.now in
+    evaluates_as plain AllKnown (Err (Script UnknownName)) s s (λ names. refuses UnknownName) (λ names. eval s.parameters (call c.args.name.now (arguments_of c.args.args.now)))
+    (λ names. call_word s.parameters c.args.name.now c.args.args.now None c.in-None.ensures) (evaluates_refuses plain AllKnown UnknownName s)
+
+pub command_call-returns-then-not-takes : goal.command_call-returns-then-not-takes
+command_call-returns-then-not-takes t c =
+    let s = state_of c.args.machine.now in
+    let args = c.args.args.now in
+    evaluates_as plain AllKnown (Err (Script WrongCount)) s s (λ names. refuses WrongCount) (λ names. answered c.args.command (argument_count (arguments_of args)) (eval_given s.parameters (arguments_of args)))
+    (λ names. count_wrong s.parameters c.args.command args (sym c.takes.ensures ∙ c.if-takes.false)) (evaluates_refuses plain AllKnown WrongCount s)
+
+pub command_call-returns-in_err-values : goal.command_call-returns-in_err-values
+command_call-returns-in_err-values t c =
     let s = state_of c.args.machine.now in
     let s1 = state_of c.given.new.machine in
     let r = c.from_residual.result in
-    let name = c.args.name.now in
+    let command = c.args.command in
     let args = c.args.args.now in
-    evaluates_as plain AllKnown r s s1 (λ names. eval_given s.parameters (arguments_of args) >>= (λ values. plain_alone values (λ ds. ask (calls name ds)))) (λ names. eval s.parameters (call name (arguments_of args)))
-    (λ names. call_right s.parameters name args (sym c.in_default.ensures) (sym c.in_default-check_call.ensures))
-    (evaluates_exit plain_where known_where plain AllKnown r _ s s1 (λ names. eval_given s.parameters (arguments_of args)) (λ names values. plain_alone values (λ ds. ask (calls name ds))) c.from_residual.ensures.1 c.in_err-values.ensures.value)
+    evaluates_as plain AllKnown r s s1 (λ names. eval_given s.parameters (arguments_of args) >>= (λ values. plain_alone values (λ ds. ask (calls command ds)))) (λ names. answered command (argument_count (arguments_of args)) (eval_given s.parameters (arguments_of args)))
+    (λ names. count_right s.parameters command args (sym c.takes.ensures ∙ c.if-takes.true))
+    (evaluates_exit plain_where known_where plain AllKnown r _ s s1 (λ names. eval_given s.parameters (arguments_of args)) (λ names values. plain_alone values (λ ds. ask (calls command ds))) c.from_residual.ensures.1 c.in_err-values.ensures.value)
 
 pub given-loop-arg-init : goal.given-loop-arg-init
 given-loop-arg-init t c =
@@ -147,29 +168,29 @@ given-returns-clause-value t c =
     (evaluates_as plain_where known_where (Ok o) s s (λ names. gives (plain_where names o)) _ (λ names. given_over ps (plain_where names o))
     (evaluates_gives plain_where known_where o s (λ names. plain_where names o) inv.known (λ final later. refl))))
 
-pub call-returns-in-Some-2 : goal.call-returns-in-Some-2
-call-returns-in-Some-2 t c =
+pub command_call-returns-in-Some : goal.command_call-returns-in-Some
+command_call-returns-in-Some t c =
     let s = state_of c.args.machine.now in
     let s1 = state_of c.given.new.machine in
     let s2 = state_of c.call.new.self in
     let r = c.call.result in
-    let name = c.args.name.now in
+    let command = c.args.command in
     let args = c.args.args.now in
-    let vs = c.in-Some-2.values in
-    let h = subst (λ o. Evaluates plain_where known_where (Ok o) s s1 (λ names. eval_given s.parameters (arguments_of args))) c.in-Some-2.is c.in_ok-values.ensures.value in
-    evaluates_as plain AllKnown r s s2 (λ names. eval_given s.parameters (arguments_of args) >>= (λ values. plain_alone values (λ ds. ask (calls name ds)))) (λ names. eval s.parameters (call name (arguments_of args)))
-    (λ names. call_right s.parameters name args (sym c.in_default.ensures) (sym c.in_default-check_call.ensures))
-    (evaluates_then plain_where known_where plain AllKnown (Some vs) r s s1 s2 (λ names. eval_given s.parameters (arguments_of args)) (λ names values. plain_alone values (λ ds. ask (calls name ds))) h
-    (subst (λ xs. Evaluates plain AllKnown r s1 s2 (λ names. ask (calls name (plain_of_all names xs)))) c.deref.ensures.value c.call.ensures))
+    let vs = c.in-Some.values in
+    let h = subst (λ o. Evaluates plain_where known_where (Ok o) s s1 (λ names. eval_given s.parameters (arguments_of args))) c.in-Some.is c.in_ok-values.ensures.value in
+    evaluates_as plain AllKnown r s s2 (λ names. eval_given s.parameters (arguments_of args) >>= (λ values. plain_alone values (λ ds. ask (calls command ds)))) (λ names. answered command (argument_count (arguments_of args)) (eval_given s.parameters (arguments_of args)))
+    (λ names. count_right s.parameters command args (sym c.takes.ensures ∙ c.if-takes.true))
+    (evaluates_then plain_where known_where plain AllKnown (Some vs) r s s1 s2 (λ names. eval_given s.parameters (arguments_of args)) (λ names values. plain_alone values (λ ds. ask (calls command ds))) h
+    (subst (λ xs. Evaluates plain AllKnown r s1 s2 (λ names. ask (calls command (plain_of_all names xs)))) c.deref.ensures.value c.call.ensures))
 
-pub call-returns-in-None : goal.call-returns-in-None
-call-returns-in-None t c =
+pub command_call-returns-in-None : goal.command_call-returns-in-None
+command_call-returns-in-None t c =
     let s = state_of c.args.machine.now in
     let s1 = state_of c.given.new.machine in
-    let name = c.args.name.now in
+    let command = c.args.command in
     let args = c.args.args.now in
     let r = Err (Script WrongType) in
     let h = subst (λ o. Evaluates plain_where known_where (Ok o) s s1 (λ names. eval_given s.parameters (arguments_of args))) c.in-None.is c.in_ok-values.ensures.value in
-    evaluates_as plain AllKnown r s s1 (λ names. eval_given s.parameters (arguments_of args) >>= (λ values. plain_alone values (λ ds. ask (calls name ds)))) (λ names. eval s.parameters (call name (arguments_of args)))
-    (λ names. call_right s.parameters name args (sym c.in_default.ensures) (sym c.in_default-check_call.ensures))
-    (evaluates_then plain_where known_where plain AllKnown None r s s1 s1 (λ names. eval_given s.parameters (arguments_of args)) (λ names values. plain_alone values (λ ds. ask (calls name ds))) h (evaluates_refuses plain AllKnown WrongType s1))
+    evaluates_as plain AllKnown r s s1 (λ names. eval_given s.parameters (arguments_of args) >>= (λ values. plain_alone values (λ ds. ask (calls command ds)))) (λ names. answered command (argument_count (arguments_of args)) (eval_given s.parameters (arguments_of args)))
+    (λ names. count_right s.parameters command args (sym c.takes.ensures ∙ c.if-takes.true))
+    (evaluates_then plain_where known_where plain AllKnown None r s s1 s1 (λ names. eval_given s.parameters (arguments_of args)) (λ names values. plain_alone values (λ ds. ask (calls command ds))) h (evaluates_refuses plain AllKnown WrongType s1))
