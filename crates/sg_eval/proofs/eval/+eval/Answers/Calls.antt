@@ -89,7 +89,7 @@ command_call-returns-then-not-takes t c =
     let s = state_of c.args.machine.now in
     let args = c.args.args.now in
     evaluates_as plain AllKnown (Err (Script WrongCount)) s s (λ names. refuses WrongCount) (λ names. answered c.args.command (argument_count (arguments_of args)) (eval_given s.parameters (arguments_of args)))
-    (λ names. count_wrong s.parameters c.args.command args (sym c.takes.ensures ∙ c.if-takes.false)) (evaluates_refuses plain AllKnown WrongCount s)
+    (λ names. count_wrong s.parameters c.args.command args (sym c.takes.ensures ∙ c.if-not-takes.true)) (evaluates_refuses plain AllKnown WrongCount s)
 
 pub command_call-returns-in_err-values : goal.command_call-returns-in_err-values
 command_call-returns-in_err-values t c =
@@ -99,7 +99,7 @@ command_call-returns-in_err-values t c =
     let command = c.args.command in
     let args = c.args.args.now in
     evaluates_as plain AllKnown r s s1 (λ names. eval_given s.parameters (arguments_of args) >>= (λ values. plain_alone values (λ ds. ask (calls command ds)))) (λ names. answered command (argument_count (arguments_of args)) (eval_given s.parameters (arguments_of args)))
-    (λ names. count_right s.parameters command args (sym c.takes.ensures ∙ c.if-takes.true))
+    (λ names. count_right s.parameters command args (sym c.takes.ensures ∙ c.if-not-takes.false))
     (evaluates_exit plain_where known_where plain AllKnown r _ s s1 (λ names. eval_given s.parameters (arguments_of args)) (λ names values. plain_alone values (λ ds. ask (calls command ds))) c.from_residual.ensures.1 c.in_err-values.ensures.value)
 
 pub given-loop-arg-init : goal.given-loop-arg-init
@@ -179,7 +179,7 @@ command_call-returns-in-Some t c =
     let vs = c.in-Some.values in
     let h = subst (λ o. Evaluates plain_where known_where (Ok o) s s1 (λ names. eval_given s.parameters (arguments_of args))) c.in-Some.is c.in_ok-values.ensures.value in
     evaluates_as plain AllKnown r s s2 (λ names. eval_given s.parameters (arguments_of args) >>= (λ values. plain_alone values (λ ds. ask (calls command ds)))) (λ names. answered command (argument_count (arguments_of args)) (eval_given s.parameters (arguments_of args)))
-    (λ names. count_right s.parameters command args (sym c.takes.ensures ∙ c.if-takes.true))
+    (λ names. count_right s.parameters command args (sym c.takes.ensures ∙ c.if-not-takes.false))
     (evaluates_then plain_where known_where plain AllKnown (Some vs) r s s1 s2 (λ names. eval_given s.parameters (arguments_of args)) (λ names values. plain_alone values (λ ds. ask (calls command ds))) h
     (subst (λ xs. Evaluates plain AllKnown r s1 s2 (λ names. ask (calls command (plain_of_all names xs)))) c.deref.ensures.value c.call.ensures))
 
@@ -192,5 +192,5 @@ command_call-returns-in-None t c =
     let r = Err (Script WrongType) in
     let h = subst (λ o. Evaluates plain_where known_where (Ok o) s s1 (λ names. eval_given s.parameters (arguments_of args))) c.in-None.is c.in_ok-values.ensures.value in
     evaluates_as plain AllKnown r s s1 (λ names. eval_given s.parameters (arguments_of args) >>= (λ values. plain_alone values (λ ds. ask (calls command ds)))) (λ names. answered command (argument_count (arguments_of args)) (eval_given s.parameters (arguments_of args)))
-    (λ names. count_right s.parameters command args (sym c.takes.ensures ∙ c.if-takes.true))
+    (λ names. count_right s.parameters command args (sym c.takes.ensures ∙ c.if-not-takes.false))
     (evaluates_then plain_where known_where plain AllKnown None r s s1 s1 (λ names. eval_given s.parameters (arguments_of args)) (λ names values. plain_alone values (λ ds. ask (calls command ds))) h (evaluates_refuses plain AllKnown WrongType s1))
