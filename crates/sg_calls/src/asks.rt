@@ -9,7 +9,7 @@ ghost use Rattle.sg_lawful.specs.Lawful.{IsLawfulList, IsLawfulIdeal};
 ghost use Rattle.sg_value.specs.Data.{ideals};
 ghost use Rattle.sg_value.specs.Known.{named};
 ghost use Rattle.sg_value.specs.Plain.{AllKnown, AllKnownIn, thing_at};
-ghost use Rattle.sg_relative.specs.Rows.{over, stored};
+ghost use Rattle.sg_relative.specs.Rows.{over};
 ghost use Rattle.sg_calls.specs.Asked.{the_semigroup, the_ideal, the_semigroup_and_integer, the_semigroups, the_integer_and_semigroup, the_integer_and_ideal, the_ideals, the_list_and_semigroup};
 
 use sg_apery::Table;
@@ -189,7 +189,7 @@ fn ideal_at(
     id: IdealId,
 ) -> Result<(Rc<Table>, Ideal), AllocError>
     requires { IsSome (slice_get store.old.ideals id) }
-    ensures ideal { IfOk result (λ p. (stored p.1 ≡ thing_at (named store.old) ideals id) × (p.1.ambient ≡ p.0.value)) }
+    ensures ideal { IfOk result (λ p. (p.1 ≡ thing_at (named store.old) ideals id) × (p.1.ambient ≡ p.0.value)) }
     ensures unchanged { store.new ≡ store.old }
 {
     let table = table_of_ideal(alloc, store, id)?;
@@ -205,7 +205,7 @@ pub fn integer_then_ideal(
     b: &Value,
 ) -> Result<Option<(i64, (Rc<Table>, Ideal))>, AllocError>
     requires { AllKnown (named store.old) b.now }
-    ensures both { IfOk result (λ found. MatchOption found (the_integer_and_ideal store.old a.now b.now ≡ None) (λ p. (the_integer_and_ideal store.old a.now b.now ≡ Some (p.0, stored p.1.1)) × (p.1.1.ambient ≡ p.1.0.value))) }
+    ensures both { IfOk result (λ found. MatchOption found (the_integer_and_ideal store.old a.now b.now ≡ None) (λ p. (the_integer_and_ideal store.old a.now b.now ≡ Some (p.0, p.1.1)) × (p.1.1.ambient ≡ p.1.0.value))) }
     ensures unchanged { store.new ≡ store.old }
 {
     match sg_rows::integer_then_ideal(a, b) {
@@ -223,7 +223,7 @@ pub fn two_ideals(
 ) -> Result<Option<((Rc<Table>, Ideal), (Rc<Table>, Ideal))>, AllocError>
     requires first { AllKnown (named store.old) a.now }
     requires second { AllKnown (named store.old) b.now }
-    ensures both { IfOk result (λ found. MatchOption found (the_ideals store.old a.now b.now ≡ None) (λ p. (the_ideals store.old a.now b.now ≡ Some (stored p.0.1, stored p.1.1)) × (p.0.1.ambient ≡ p.0.0.value))) }
+    ensures both { IfOk result (λ found. MatchOption found (the_ideals store.old a.now b.now ≡ None) (λ p. (the_ideals store.old a.now b.now ≡ Some (p.0.1, p.1.1)) × (p.0.1.ambient ≡ p.0.0.value))) }
     ensures unchanged { store.new ≡ store.old }
 {
     let Some((one, other)) = sg_rows::two_ideals(a, b) else {

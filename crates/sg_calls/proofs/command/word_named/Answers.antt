@@ -11,9 +11,9 @@ returns-in-Some c = ap (λ o. option_or o (option_map word.Command (family_comma
 pub returns-in_err-family_command-in-None : goal.returns-in_err-family_command-in-None
 unfolding word_named
 returns-in_err-family_command-in-None c =
-    ap (option_map word.Command) c.in_err-family_command.ensures ∙ ap (λ o. option_or o (option_map word.Command (family_command c.args.name.now))) c.in-None.ensures
+    ap (option_map word.Command) c.in_err-family_command-in-None.ensures ∙ ap (λ o. option_or o (option_map word.Command (family_command c.args.name.now))) c.in-None.ensures
 
 pub returns-in_ok-family_command-in-None : goal.returns-in_ok-family_command-in-None
 unfolding word_named
 returns-in_ok-family_command-in-None c =
-    ap (option_map word.Command) c.in_ok-family_command.ensures ∙ ap (λ o. option_or o (option_map word.Command (family_command c.args.name.now))) c.in-None.ensures
+    ap (option_map word.Command) c.in_ok-family_command-in-None.ensures ∙ ap (λ o. option_or o (option_map word.Command (family_command c.args.name.now))) c.in-None.ensures
