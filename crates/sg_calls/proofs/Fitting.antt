@@ -1,8 +1,9 @@
 -- Replies of rows by what was taken of the arguments.
 use Rattle.std.proofs.Common.{◌≡◌, Option, Some, None, Result, Ok, Err, refl, ap, sym, ◌∙◌, subst}
-use Rattle.std.specs.Prelude.{IfOk}
+use Rattle.std.specs.Prelude.{IfOk, MatchOption}
 use Rattle.sg_value.specs.Known.{Known}
 use Rattle.sg_value.specs.declared.value.Value.{Value}
+use Rattle.sg_store.specs.Interned.{Keeps}
 use Rattle.sg_rows.specs.Alternatives.{or_else}
 use Rattle.sg_rows.specs.Kinds.{fitted, given}
 use Rattle.sg_rows.specs.Made.{IsSound, Tells, datum}
@@ -49,3 +50,25 @@ module _ {A : Type 0} (o : Option A) (row : A → Row) (store : Known) where
   -- a reply of the other kinds
   pub other_fitted : (r : Result Value CallFault) (rest : Case) → o ≡ None → Replies r store rest → Replies r store (or_else (fitted o row) rest)
   other_fitted r rest is h = subst (λ p. Replies r store (or_else (fitted p row) rest)) (sym is) h
+
+-- ---- what was asked of the store
+
+-- what a call that found something says of it, and what it says where it found nothing
+module _ {A : Type 0} (N : Type 0) (P : A → Type 0) (o : Option A) (told : MatchOption o N P) where
+  pub found_some : (a : A) → o ≡ Some a → P a
+  found_some a is = subst (λ p. MatchOption p N P) is told
+
+  pub found_none : o ≡ None → N
+  found_none is = subst (λ p. MatchOption p N P) is told
+
+-- a store that stayed as it was and then grew
+pub kept_from : (one two three : Known) → two ≡ one → Keeps two three → Keeps one three
+kept_from one two three same kept = subst (λ s. Keeps s three) same kept
+
+-- other operands than those that are looked for first
+pub other_given : {A : Type 0} (o : Option A) (f : A → Case) (store : Known) (r : Result Value CallFault) (rest : Case) → o ≡ None → Replies r store rest → Replies r store (or_else (given o f) rest)
+other_given o f store r rest is h = subst (λ p. Replies r store (or_else (given p f) rest)) (sym is) h
+
+-- what tells a row of two tells it of two that are the same
+pub pair_told : {A B : Type 0} (row : A → B → Row) (told : Result Made CallFault) (a : A) (b : B) (c : A) (d : B) → Tells told (row a b) → a ≡ c → b ≡ d → Tells told (row c d)
+pair_told row told a b c d tells same also = subst (λ x. Tells told (row c x)) also (subst (λ x. Tells told (row x b)) same tells)

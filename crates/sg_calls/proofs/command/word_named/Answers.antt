@@ -1,4 +1,4 @@
-use Rattle.std.proofs.Common.{ap, ◌∙◌}
+use Rattle.std.proofs.Common.{ap, ◌∙◌, rules}
 use Rattle.std.specs.Option.{option_map, option_or}
 use Rattle.sg_calls.specs.Commands.{family_command, word_named}
 use Rattle.sg_calls.specs.declared.command.Word.TheVariants as word
@@ -11,7 +11,7 @@ returns-in-Some c = ap (λ o. option_or o (option_map word.Command (family_comma
 pub returns-in_err-family_command-in-None : goal.returns-in_err-family_command-in-None
 unfolding word_named
 returns-in_err-family_command-in-None c =
-    ap (option_map word.Command) c.in_err-family_command-in-None.ensures ∙ ap (λ o. option_or o (option_map word.Command (family_command c.args.name.now))) c.in-None.ensures
+    search rules ∙ ap (option_map word.Command) c.in_err-family_command-in-None.ensures ∙ ap (λ o. option_or o (option_map word.Command (family_command c.args.name.now))) c.in-None.ensures
 
 pub returns-in_ok-family_command-in-None : goal.returns-in_ok-family_command-in-None
 unfolding word_named
