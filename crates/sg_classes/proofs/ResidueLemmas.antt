@@ -36,7 +36,7 @@ reached-rest G p a b g h =
     reached-minus G p (a % b) ((a / b) * b) (subst (IsReached G (suc p)) e g) (reached-times G (suc p) (a / b) b h)
 
 -- Euclid's steps stay inside the reached numbers
-reached-gcd : (G : List ℕ) (p n a b : ℕ) → b ≤ n → IsReached G (suc p) a → IsReached G (suc p) b → (d : ℕ) × IsGcd a b d × IsReached G (suc p) d
+pub reached-gcd : (G : List ℕ) (p n a b : ℕ) → b ≤ n → IsReached G (suc p) a → IsReached G (suc p) b → (d : ℕ) × IsGcd a b d × IsReached G (suc p) d
 reached-gcd G p zero a b l g h = (a, IsGcd-from_zero a b (let e : b ≡ 0 = omega arith in e), g)
 reached-gcd G p (suc n) a zero l g h = (a, IsGcd-from_zero a 0 refl, g)
 reached-gcd G p (suc n) a (suc b) l g h =
