@@ -3,7 +3,7 @@ use Rattle.std.proofs.Common.{◌≡◌, ◌↔◌, ℕ, zero, suc, ◌+◌, ◌
 use Rattle.std.specs.Prelude.{unsigned_abs, Contains}
 use Rattle.std.specs.Int.{◌∣◌, IsGcd}
 use Rattle.std.proofs.lemmas.List.{drop_more, drop_all}
-use Rattle.std.proofs.lemmas.Nat.Gcd.{IsGcd-from_mod, IsGcd-from_zero, dvd_refl, dvd-zero, dvd_trans, dvd_antisymm, le_of_dvd}
+use Rattle.std.proofs.lemmas.Nat.Gcd.{IsGcd-from_mod, IsGcd-from_zero, dvd_refl, dvd_trans, dvd_antisymm, le_of_dvd}
 use Rattle.std.proofs.Math.Nat.{one-dvd, dvd-mul_right, dvd-mul_left, pos_of_dvd_of_pos, eq-zero_of_zero-dvd}
 use Rattle.sg_nat.specs.Arithmetic.{IsLcm, LcmReaches}
 use Rattle.sg_nat.proofs.LcmLemmas.{IsLcm-by_gcd, IsLcm-zero}
@@ -19,9 +19,6 @@ gcd_more zs i a k g within is h = λ d. subst (λ ys. (d ∣ g) ↔ EachOf (pos 
   (λ p. let q = (h d).0 p in (dvd_trans d q.0 is.0, (dvd_trans d q.0 is.1, q.1))),
   (λ p. (h d).1 (is.2 d p.0 p.1.0, p.1.1)),
 )
-
-pub gcd_first : (zs : List ℤ) (g : ℕ) → IsGcdOfAll (pos 0 ∷ zs) g → IsGcdOfAll zs g
-gcd_first zs g h = λ d. ((λ p. ((h d).0 p).1), (λ p. (h d).1 (dvd-zero d, p)))
 
 pub gcd_last : (zs : List ℤ) (i g : ℕ) → length zs ≤ i → IsGcdOfAll (pos g ∷ drop i zs) g
 gcd_last zs i g past = λ d. subst (λ ys. (d ∣ g) ↔ EachOf (pos g ∷ ys) (λ z. d ∣ unsigned_abs z)) (sym (drop_all i zs past)) ((λ p. (p, tt)), (λ p. p.0))

@@ -1,17 +1,16 @@
 -- Membership generator by generator.
-use Rattle.std.proofs.Common.{◌≡◌, ℕ, ◌+◌, ◌<◌, ◌≤◌, inl, inr, ◌%◌, ◌↔◌, List, length, get_or, sym, subst, arith}
+use Rattle.std.proofs.Common.{◌≡◌, ℕ, ◌<◌, ◌%◌, ◌↔◌, List, length, get_or, sym, subst, arith}
 use Rattle.std.specs.Prelude.{ℤ, pos, ◌-ℤ◌, ◌≤ℤ◌, IsTrue, nat_le, nat_abs, false}
 use Rattle.std.proofs.Common.{to_z, of_z, w64}
 use Rattle.std.specs.Int.Signed.{lt_z}
 use mir.Val.{SFits}
 use Rattle.std.proofs.lemmas.Int.{ints}
-use Rattle.std.proofs.lemmas.Bool.{leb-true, le-leb, cases_lt}
+use Rattle.std.proofs.lemmas.Bool.{leb-true, le-leb}
 use Rattle.std.proofs.lemmas.List.Elements.{Contains-get_or}
 use Rattle.sg_defs.specs.Apery.{IsApery}
 use Rattle.sg_defs.specs.Ideals.{IsIdealMember}
 use Rattle.sg_defs.specs.Membership.{IsIntegerMember, IsNumericalSemigroup}
 use Rattle.sg_apery.proofs.DerivedLemmas.{table-member}
-use Rattle.sg_generated.proofs.IdealDecisions.{integer-place}
 
 -- the comparison of a distance with the entry of its class
 pub above_entry : (G t : List ℕ) (n : ℕ) (z : ℤ) → IsNumericalSemigroup G → length t ≡ get_or G 0 0 → IsApery G (get_or G 0 0) t → z ≡ pos n → IsTrue (nat_le (get_or t (n % length t) 0) n) ↔ IsIntegerMember G z
@@ -27,18 +26,6 @@ IsMissedBy G I x k = (i : ℕ) → i < k → IsIntegerMember G (x -ℤ get_or I 
 
 pub reached : (G : List ℕ) (I : List ℤ) (x : ℤ) (k : ℕ) → k < length I → IsIntegerMember G (x -ℤ get_or I k (pos 0)) → IsIdealMember G I x
 reached G I x k l m = (get_or I k (pos 0), Contains-get_or I k (pos 0) l, m)
-
-pub missed_more : (G : List ℕ) (I : List ℤ) (x : ℤ) (k : ℕ) → (IsIntegerMember G (x -ℤ get_or I k (pos 0)) → ⊥) → IsMissedBy G I x k → IsMissedBy G I x (k + 1)
-missed_more G I x k here before i l m = elim (cases_lt i k) [
-  | inl less ↦ before i less m
-  | inr more ↦ let e : i ≡ k = omega arith in here (subst (λ j. IsIntegerMember G (x -ℤ get_or I j (pos 0))) e m)
-]
-
-pub missed_all : (G : List ℕ) (I : List ℤ) (x : ℤ) (k : ℕ) → length I ≤ k → IsMissedBy G I x k → IsIdealMember G I x → ⊥
-missed_all G I x k past missed m =
-    let p = integer-place I m.0 m.1 in
-    let l = p.1 in
-    missed p.0 (omega arith) (subst (λ g. IsIntegerMember G (x -ℤ g)) (sym p.2) m.2)
 
 -- the distance without a sign, where it has none
 pub distance : (x g : ℤ) (d : ℕ) → SFits w64 x → SFits w64 g → lt_z (to_z w64 (of_z w64 x)) (to_z w64 (of_z w64 g)) ≡ false → d ≡ nat_abs (to_z w64 (of_z w64 x) -ℤ to_z w64 (of_z w64 g)) → x -ℤ g ≡ pos d

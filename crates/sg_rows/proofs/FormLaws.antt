@@ -6,7 +6,7 @@ use Rattle.sg_value.specs.Data.{Items}
 use Rattle.sg_value.specs.Plain.{Things, RelativeIdeal}
 use Rattle.sg_rows.specs.Order.{Plain, Row, fits}
 use Rattle.sg_rows.specs.Kinds.{fitted, as_integer, as_integers, as_semigroup, as_ideal, one, two, three, list_or_integers, two_integers, three_integers, two_semigroups, two_ideals, semigroup_and_integer, integer_then_semigroup, integer_then_ideal, list_then_semigroup}
-use Rattle.sg_rows.specs.Forms.{of_list, of_list_or_integers, of_two_integers, of_three_integers, of_semigroup, of_semigroup_and_integer, of_semigroup_then_integer, of_two_semigroups, of_ideal, of_two_ideals, of_list_then_semigroup, on_two_integers, on_two_ideals, on_integer_and_ideal, on_list_and_semigroup, on_integer_and_semigroup}
+use Rattle.sg_rows.specs.Forms.{of_list, of_list_or_integers, of_two_integers, of_three_integers, of_semigroup, of_semigroup_and_integer, of_semigroup_then_integer, of_two_semigroups, of_ideal, of_two_ideals, of_list_then_semigroup, on_two_ideals, on_integer_and_ideal, on_list_and_semigroup, on_integer_and_semigroup}
 use Rattle.sg_rows.specs.Lawful.{IsLawfulThing, IsLawful, AreLawful}
 use Rattle.sg_rows.proofs.KindLemmas.{as_semigroup-each, as_ideal-each, semigroup_and_integer-each, one-each, two-each, both-each, any_some}
 use Rattle.sg_rows.proofs.OneValue.{One, OneValue, fitted_one}
@@ -113,12 +113,6 @@ of_two_semigroups_some row h args l =
     (two-each IsLawfulThing (BothLawful IsLawfulList IsLawfulList) two_semigroups (λ a b p q. both-each IsLawfulList IsLawfulList (as_semigroup a) (as_semigroup b) (semigroup_lawful a p) (semigroup_lawful b q)) args l)
 
 -- ---- two operands
-
-pub on_two_integers_one : (row : ℤ → ℤ → Row) → ((x y : ℤ) → One (row x y).value) → (a b : Plain) → OneValue (on_two_integers a b row)
-on_two_integers_one row h a b = pair_one row h (two_integers a b)
-
-pub on_two_integers_some : (row : ℤ → ℤ → Row) → ((x y : ℤ) → SomeValue (fits (row x y))) → (a b : Plain) → SomeValue (on_two_integers a b row)
-on_two_integers_some row h a b = fitted_some (λ p. ⊤) (two_integers a b) (of_both row) (any_some (two_integers a b)) (λ p u. h p.0 p.1)
 
 pub on_two_ideals_one : (row : RelativeIdeal → RelativeIdeal → Row) → ((I J : RelativeIdeal) → One (row I J).value) → (a b : Plain) → OneValue (on_two_ideals a b row)
 on_two_ideals_one row h a b = pair_one row h (two_ideals a b)

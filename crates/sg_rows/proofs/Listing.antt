@@ -1,20 +1,14 @@
 -- Replies that are lists of numbers or of semigroups.
-use Rattle.std.proofs.Common.{◌≡◌, ◌<◌, ◌≤◌, ℕ, ℤ, pos, List, [], ◌∷◌, length, map, Result, Ok, Err, inl, inr, refl, ap, sym, ◌∙◌, subst, Bool, true, false, IsTrue, arith}
-use Rattle.sg_value.specs.Known.{Known, named}
+use Rattle.std.proofs.Common.{◌≡◌, ◌<◌, ◌≤◌, ℕ, ℤ, pos, List, [], ◌∷◌, length, map, Ok, Err, inl, inr, refl, ap, sym, ◌∙◌, Bool, true, false, IsTrue, arith}
 use Rattle.std.proofs.lemmas.Bool.{cases_lt}
-use Rattle.sg_value.specs.Data.{Data, int, list, semigroup, item, items_of, data_map, items_map, weight_of, weight_of_all, depth_of, depth_of_all, EachThing, EachThingOfAll, Kind}
+use Rattle.sg_value.specs.Data.{Data, int, list, semigroup, item, items_of, data_map, items_map, weight_of, weight_of_all, depth_of, depth_of_all, EachThingOfAll, Kind}
 use Rattle.sg_value.specs.Places.{Entries}
 use Rattle.sg_value.specs.declared.limits.TheConstants.{WEIGHT_LIMIT}
-use Rattle.sg_value.specs.Plain.{contents, thing_at, IsKnown, Things, Places}
-use Rattle.sg_value.specs.declared.value.Value.{Value}
+use Rattle.sg_value.specs.Plain.{contents, Things, Places}
 use Rattle.sg_value.specs.declared.value.Value.TheVariants as value
-use Rattle.sg_rows.specs.Order.{Plain, fits, Delivers, IsReply}
-use Rattle.sg_rows.specs.Values.{answers, integer_list, natural_list, semigroup_list}
-use Rattle.sg_rows.specs.Replies.{Replies}
-use Rattle.sg_rows.specs.declared.fault.Fault.{Fault}
+use Rattle.sg_rows.specs.Order.{Delivers}
+use Rattle.sg_rows.specs.Values.{integer_list, natural_list, semigroup_list}
 use Rattle.sg_rows.specs.declared.fault.Fault.TheVariants.{TooLarge}
-use Rattle.sg_rows.specs.declared.fault.CallFault.TheVariants.{Script}
-use Rattle.sg_rows.proofs.Replying.{delivered}
 
 module _ {A : Type 0} {H : Kind → Type 0} (f : A → Data H) (light : (a : A) → weight_of (f a) ≡ 1) (flat : (a : A) → depth_of (f a) ≡ 0) where
   pub weight-flat : (xs : List A) → weight_of_all (items_of (map f xs)) ≡ length xs
@@ -74,32 +68,6 @@ integers_known P (z ∷ zs) = (tt, integers_known P zs)
 pub naturals_known : (P : (k : Kind) → Places k → Type 0) (ns : List ℕ) → EachThingOfAll P (items_of (map (λ n. int (pos n)) ns))
 naturals_known P [] = tt
 naturals_known P (n ∷ ns) = (tt, naturals_known P ns)
-
--- the one value of a row, where it was found
-exact : (x : Plain) (r : Result Plain Fault) → Delivers x r → IsReply (fits (answers (λ d. d ≡ x))) r
-exact x r h = delivered (answers (λ d. d ≡ x)) x r (record { size = λ n. n; bad = λ n. n; limit = λ n. n; many = λ n. n; budget = λ n. n }) refl h
-
--- a list of integers as the reply
-pub replies_integers : (store : Known) (zs : List ℤ) (v : Value) → contents v ≡ integer_list zs → length zs < WEIGHT_LIMIT → Replies (Ok v) store (fits (answers (λ d. d ≡ integer_list zs)))
-replies_integers store zs v is few = (
-  subst (λ d. IsReply (fits (answers (λ e. e ≡ integer_list zs))) (Ok d)) (sym (ap (data_map (thing_at (named store))) is ∙ plain_integers (thing_at (named store)) zs))
-      (exact (integer_list zs) (Ok (integer_list zs)) (delivers_integers zs few)),
-  subst (EachThing (IsKnown (named store))) (sym is) (integers_known (IsKnown (named store)) zs),
-)
-
-pub replies_heavy_integers : (store : Known) (zs : List ℤ) → WEIGHT_LIMIT ≤ length zs → Replies (Err (Script TooLarge)) store (fits (answers (λ d. d ≡ integer_list zs)))
-replies_heavy_integers store zs many = exact (integer_list zs) (Err TooLarge) (delivers_heavy_integers zs many)
-
--- a list of naturals as the reply
-pub replies_naturals : (store : Known) (ns : List ℕ) (v : Value) → contents v ≡ natural_list ns → length ns < WEIGHT_LIMIT → Replies (Ok v) store (fits (answers (λ d. d ≡ natural_list ns)))
-replies_naturals store ns v is few = (
-  subst (λ d. IsReply (fits (answers (λ e. e ≡ natural_list ns))) (Ok d)) (sym (ap (data_map (thing_at (named store))) is ∙ plain_naturals (thing_at (named store)) ns))
-      (exact (natural_list ns) (Ok (natural_list ns)) (delivers_naturals ns few)),
-  subst (EachThing (IsKnown (named store))) (sym is) (naturals_known (IsKnown (named store)) ns),
-)
-
-pub replies_heavy_naturals : (store : Known) (ns : List ℕ) → WEIGHT_LIMIT ≤ length ns → Replies (Err (Script TooLarge)) store (fits (answers (λ d. d ≡ natural_list ns)))
-replies_heavy_naturals store ns many = exact (natural_list ns) (Err TooLarge) (delivers_heavy_naturals ns many)
 
 pub contents-List : (ds : Entries) → contents (value.List ds) ≡ list ds
 contents-List ds = refl

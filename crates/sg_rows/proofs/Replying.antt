@@ -11,7 +11,7 @@ use Rattle.sg_rows.specs.Order.{Plain, Reply, Row, fits, Checks, passed, check, 
 use Rattle.sg_rows.specs.Values.{answers, whether}
 use Rattle.sg_rows.specs.Replies.{Replies}
 use Rattle.sg_rows.specs.declared.fault.Fault.{Fault}
-use Rattle.sg_rows.specs.declared.fault.Fault.TheVariants.{Overflow, BadArgument, TooLarge, TooMany, Budget}
+use Rattle.sg_rows.specs.declared.fault.Fault.TheVariants.{BadArgument, TooLarge, TooMany, Budget}
 use Rattle.sg_rows.specs.declared.fault.CallFault.{CallFault}
 use Rattle.sg_rows.specs.declared.fault.CallFault.TheVariants.{Script, Memory}
 
@@ -51,20 +51,12 @@ replies_integer store row z v is fit p h = (
   subst (λ d. EachThing (IsKnown (named store)) d) (sym is) tt,
 )
 
--- an integer outside of 64 bits
-pub replies_overflow : (store : Known) (row : Row) (z : ℤ) → (¬ FitsSigned w64 z) → Passes row → row.value (int z) → Replies (Err (Script Overflow)) store (fits row)
-replies_overflow store row z out p h = delivered row (int z) (Err Overflow) p h (inl (out, refl))
-
 -- a truth value as the reply
 pub replies_truth : (store : Known) (b : Bool) (v : Value) (P : Type 0) → contents v ≡ truth b → (IsTrue b ↔ P) → Replies (Ok v) store (fits (answers (whether P)))
 replies_truth store b v P is h = (
   subst (λ d. IsReply (fits (answers (whether P))) (Ok d)) (sym (plain_truth store v b is)) (delivered (answers (whether P)) (truth b) (Ok (truth b)) (answers_pass (whether P)) (b, refl, h) (delivers_truth b)),
   subst (λ d. EachThing (IsKnown (named store)) d) (sym is) tt,
 )
-
--- a condition of the row that holds first
-pub replies_bad : (store : Known) (row : Row) → (¬ row.size) → row.bad → Replies (Err (Script BadArgument)) store (fits row)
-replies_bad store row small bad = inr (small, inl (bad, refl))
 
 -- a test turned round
 pub decides_not : (b : Bool) (P : Type 0) → (IsTrue b ↔ P) → IsTrue (not b) ↔ (P → ⊥)
@@ -90,14 +82,3 @@ pub replies_in : (store : Known) (r : Result Value CallFault) (x : Plain) (row :
 replies_in store (Ok v) x row p h reply = (reply_in x row (Ok (plain (named store) v)) p h reply.0, reply.1)
 replies_in store (Err (Script e)) x row p h reply = reply_in x row (Err e) p h reply
 replies_in store (Err (Memory e)) x row p h reply = tt
-
--- a limit of the row is passed
-pub replies_limit : (store : Known) (row : Row) → (¬ row.size) → (¬ row.bad) → row.limit → Replies (Err (Script TooLarge)) store (fits row)
-replies_limit store row small good wide = inr (small, inr (good, inl (wide, refl)))
-
--- a truth value of a row that may refuse something
-pub replies_truth_in : (store : Known) (row : Row) (b : Bool) (v : Value) → contents v ≡ truth b → Passes row → row.value (truth b) → Replies (Ok v) store (fits row)
-replies_truth_in store row b v is p h = (
-  subst (λ d. IsReply (fits row) (Ok d)) (sym (plain_truth store v b is)) (delivered row (truth b) (Ok (truth b)) p h (delivers_truth b)),
-  subst (λ d. EachThing (IsKnown (named store)) d) (sym is) tt,
-)

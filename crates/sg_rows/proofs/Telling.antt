@@ -1,14 +1,14 @@
 -- What functions told of rows.
-use Rattle.std.proofs.Common.{◌≡◌, ◌↔◌, ◌<◌, ◌≤◌, ◌^◌, ℕ, ℤ, pos, Bool, IsTrue, List, length, Result, Ok, Err, inl, inr, refl, ap, sym, subst}
+use Rattle.std.proofs.Common.{◌≡◌, ◌<◌, ◌≤◌, ◌^◌, ℕ, pos, List, length, Result, Ok, Err, refl, ap, sym, subst}
 use Rattle.std.specs.Prelude.{EachIndex, slice_index, OnOk}
 use Rattle.sg_value.specs.Data.{int}
 use Rattle.sg_value.specs.declared.limits.TheConstants.{WEIGHT_LIMIT}
 use Rattle.sg_rows.specs.Order.{Plain, Row, Passes}
-use Rattle.sg_rows.specs.Values.{answers, an_integer, a_natural, whether, natural_list, integers_with, naturals_with}
-use Rattle.sg_lawful.specs.Spans.{IsWide, IsShort}
+use Rattle.sg_rows.specs.Values.{answers, a_natural, natural_list, naturals_with}
+use Rattle.sg_lawful.specs.Spans.{IsShort}
 use Rattle.sg_rows.specs.Limits.{spanned}
 use Rattle.sg_rows.specs.Made.{Tells}
-use Rattle.sg_rows.specs.declared.made.Made.TheVariants.{Integer, Natural, Truth, Integers, Naturals}
+use Rattle.sg_rows.specs.declared.made.Made.TheVariants.{Natural, Naturals}
 use Rattle.sg_rows.specs.declared.fault.Fault.TheVariants.{TooLarge}
 use Rattle.sg_rows.specs.declared.fault.CallFault.TheVariants.{Script, Memory}
 use Rattle.sg_rows.specs.declared.fault.CallFault.{CallFault}
@@ -33,20 +33,11 @@ always (Err e) = tt
 
 -- ---- rows that refuse nothing
 
-pub tells_integer : (P : ℤ → Type 0) (z : ℤ) → P z → Tells (Ok (Integer z)) (answers (an_integer P))
-tells_integer P z h = (record { passes = answers_pass (an_integer P); value = (z, refl, h) }, tt)
-
 pub tells_natural : (P : ℕ → Type 0) (n : ℕ) → n < 2 ^ 63 → P n → Tells (Ok (Natural n)) (answers (a_natural P))
 tells_natural P n small h = (record { passes = answers_pass (a_natural P); value = (n, refl, h) }, small)
 
 pub tells_this_natural : (n m : ℕ) → n < 2 ^ 63 → n ≡ m → Tells (Ok (Natural n)) (answers (λ d. d ≡ int (pos m)))
 tells_this_natural n m small e = (record { passes = answers_pass (λ d. d ≡ int (pos m)); value = ap (λ k. int (pos k)) e }, small)
-
-pub tells_truth : (P : Type 0) (b : Bool) → (IsTrue b ↔ P) → Tells (Ok (Truth b)) (answers (whether P))
-tells_truth P b h = (record { passes = answers_pass (whether P); value = (b, refl, h) }, tt)
-
-pub tells_integers : (P : List ℤ → Type 0) (zs : List ℤ) → P zs → Tells (Ok (Integers zs)) (answers (integers_with P))
-tells_integers P zs h = (record { passes = answers_pass (integers_with P); value = (zs, refl, h) }, tt)
 
 pub tells_naturals : (P : List ℕ → Type 0) (ns : List ℕ) → AreWithinBits ns → P ns → Tells (Ok (Naturals ns)) (answers (naturals_with P))
 tells_naturals P ns small h = (record { passes = answers_pass (naturals_with P); value = (ns, refl, h) }, small)
@@ -54,12 +45,6 @@ tells_naturals P ns small h = (record { passes = answers_pass (naturals_with P);
 -- ---- rows that refuse a span past the limit
 
 module _ (G : List ℕ) where
-  pub tells_wide : (P : Plain → Type 0) → IsWide G → Tells (Err (Script TooLarge)) (spanned G P)
-  tells_wide P wide = inr ((λ n. n), inr ((λ n. n), inl (wide, refl)))
-
-  pub tells_truth_within : (P : Type 0) (b : Bool) → IsShort G → (IsTrue b ↔ P) → Tells (Ok (Truth b)) (spanned G (whether P))
-  tells_truth_within P b short h = (record { passes = spanned_pass G (whether P) short; value = (b, refl, h) }, tt)
-
   pub tells_naturals_within : (P : List ℕ → Type 0) (ns : List ℕ) → IsShort G → AreWithinBits ns → P ns → Tells (Ok (Naturals ns)) (spanned G (naturals_with P))
   tells_naturals_within P ns short small h = (record { passes = spanned_pass G (naturals_with P) short; value = (ns, refl, h) }, small)
 

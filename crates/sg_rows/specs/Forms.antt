@@ -47,9 +47,6 @@ of_list_then_semigroup args row = fitted (two list_then_semigroup args) (λ p. r
 
 -- ---- of two operands, in the written order
 
-abbrev pub on_two_integers : Plain → Plain → (ℤ → ℤ → Row) → Case
-on_two_integers a b row = fitted (two_integers a b) (λ p. row p.0 p.1)
-
 abbrev pub on_two_ideals : Plain → Plain → (RelativeIdeal → RelativeIdeal → Row) → Case
 on_two_ideals a b row = fitted (two_ideals a b) (λ p. row p.0 p.1)
 
