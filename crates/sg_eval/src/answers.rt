@@ -15,8 +15,8 @@ ghost use Rattle.sg_eval.specs.Ranges.{IsRange, list_of_range, is_range, ranged,
 ghost use Rattle.sg_eval.specs.State.{State};
 ghost use Rattle.sg_eval.specs.Outcomes.{Evaluates, plain_items, known_items};
 
-use crate::sequence::{Range, Sequence};
 use crate::kinds::{into_entries, truth_of};
+use crate::sequence::{Range, Sequence};
 use sg_calls::{CallFault, Fault, negate};
 use sg_nat::Bytes;
 use sg_rows::{entries_of, integer_of};

@@ -18,11 +18,11 @@ ghost use Rattle.sg_eval.specs.Truths.{itself, no_semigroup};
 ghost use Rattle.sg_eval.specs.Machine.{state_of};
 
 use crate::answers::{decide, entries, range};
-use crate::sequence::{Range, Sequence};
 use crate::eval::{eval, given};
 use crate::growth::{grow, others_onto};
 use crate::integers::integer;
 use crate::machine::Machine;
+use crate::sequence::{Range, Sequence};
 use crate::step_fault::StepFault;
 use sg_calls::{CallFault, Fault, Word, word_named};
 use sg_io::{Sink, SinkFault, write_whole};
