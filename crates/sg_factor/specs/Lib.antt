@@ -1,2 +1,4 @@
+pub mod Coins
 pub mod Greedy
+pub mod LengthTables
 pub mod Steps

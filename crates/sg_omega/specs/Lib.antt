@@ -1,1 +1,3 @@
 pub mod Minimal
+pub mod Lengths
+pub mod Readings

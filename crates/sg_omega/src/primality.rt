@@ -1,0 +1,58 @@
+//! Omega primality.
+
+ghost use Rattle.std.specs.Prelude.{◌-◌, ◌+◌, ◌<◌, ◌≤◌, ℕ, length, All, IfOk, slice_index};
+ghost use Rattle.sg_apery.specs.Fit.{IsNarrow, IsSpan};
+ghost use Rattle.sg_defs.specs.Membership.{IsMember};
+ghost use Rattle.sg_nonunique.specs.Omega.{IsOmega, IsOmegaOfSemigroup};
+ghost use Rattle.sg_omega.specs.Minimal.{IsGreatestOfAll};
+
+use crate::lengths::start_table;
+use crate::limits::OMEGA_LIMIT;
+use crate::parts::members_upto;
+use crate::walk::walk;
+use sg_apery::Table;
+use std::alloc::{AllocError, Global};
+
+/// The greatest length of a minimal vector above one of the wanted members, of which none passes `most`.
+fn greatest_minimal_length(
+    alloc: Global,
+    t: &Table,
+    wanted: &[u64],
+    most: u64,
+) -> Result<u64, AllocError>
+    requires some { 0 < length wanted.now }
+    requires members { All (IsMember t.now) wanted.now }
+    requires most { All (λ n. n ≤ most) wanted.now }
+    requires small { (s : ℕ) → IsSpan t.now s → most + s ≤ OMEGA_LIMIT }
+    ensures { IfOk result (IsGreatestOfAll t.now wanted.now) }
+{
+    let places = t.generators().len();
+    let last = t.span() - t.multiplicity();
+    let values = members_upto(alloc, t, last)?;
+    let table = start_table(alloc, most + last)?;
+    let found = walk(alloc, t, wanted, &table, places, values)?;
+    Ok(u64::from(found) - 1)
+}
+
+/// The omega primality of a member: the least number N such that below each vector whose value is the member and another
+/// member lies one of length at most N that is such a vector as well (Geroldinger and Halter-Koch, Non-Unique
+/// Factorizations, 2006). Of 0 it is 0.
+pub fn omega_of_element(alloc: Global, t: &Table, n: u64) -> Result<u64, AllocError>
+    requires narrow { IsNarrow t.now }
+    requires member { IsMember t.now n }
+    requires small { (s : ℕ) → IsSpan t.now s → n + s ≤ OMEGA_LIMIT }
+    ensures { IfOk result (IsOmega t.now n) }
+{
+    greatest_minimal_length(alloc, t, [n].as_slice(), n)
+}
+
+/// The omega primality of a numerical semigroup: the greatest of those of its minimal generators, all of which are read
+/// from the same tables.
+pub fn omega(alloc: Global, t: &Table) -> Result<u64, AllocError>
+    requires narrow { IsNarrow t.now }
+    requires small { (s : ℕ) → IsSpan t.now s → slice_index t.now (length t.now - 1) + s ≤ OMEGA_LIMIT }
+    ensures { IfOk result (IsOmegaOfSemigroup t.now) }
+{
+    let generators = t.generators().as_slice();
+    greatest_minimal_length(alloc, t, generators, generators[generators.len() - 1])
+}
