@@ -1,13 +1,12 @@
 -- The greatest lengths, generator by generator from the greatest place down, and entry by entry.
-use Rattle.std.proofs.Common.{◌≡◌, ◌≢◌, ℕ, zero, suc, ◌+◌, ◌-◌, ◌<◌, ◌≤◌, List, length, get_or, set, sum, refl, sym, ap, subst, ◌∙◌, inl, inr, ◌↔◌, arith}
+use Rattle.std.proofs.Common.{◌≡◌, ◌≢◌, ℕ, ◌+◌, ◌-◌, ◌<◌, ◌≤◌, List, length, get_or, set, sum, sym, ap, subst, ◌∙◌, inl, inr, arith}
 use Rattle.std.specs.Prelude.{◌⊎◌, min, max}
 use Rattle.std.proofs.lemmas.Bool.{cases_lt, cases_eq}
 use Rattle.std.proofs.lemmas.List.{length-set, get_or-set_same, get_or-set_other}
 use Rattle.sg_defs.specs.Membership.{IsMember}
-use Rattle.sg_defs.specs.Vectors.{value_of}
 use Rattle.sg_defs.proofs.DecidedLemmas.{member-decided}
 use Rattle.sg_nonunique.specs.Places.{lower, raise}
-use Rattle.sg_nonunique.proofs.PlaceLemmas.{inside, length-lower, length-raise, lower-same, lower-other, raise-same, raise-other, sum-lower, sum-raise, value_of-lower, value_of-raise}
+use Rattle.sg_nonunique.proofs.PlaceLemmas.{length-lower, length-raise, lower-other, raise-other, sum-lower, sum-raise, value_of-lower, value_of-raise}
 use Rattle.sg_omega.specs.Lengths.{IsInAperySet, IsLowered, IsMade, IsGreatestMade, AreGreatestMade}
 
 -- a number lies in an Apery set, or outside

@@ -1,10 +1,10 @@
 -- From the table of no generator and from the members up to a bound to omega primality.
-use Rattle.std.proofs.Common.{◌≡◌, ◌≢◌, ℕ, zero, suc, ◌+◌, ◌-◌, ◌<◌, ◌≤◌, List, [], ◌∷◌, length, get_or, replicate, set, sum, refl, sym, ap, subst, ◌∙◌, inl, inr, ◌↔◌, arith}
-use Rattle.std.specs.Prelude.{◌⊎◌, ℤ, pos, negsuc, ◌+ℤ◌, ◌≤ℤ◌, All, Contains}
+use Rattle.std.proofs.Common.{◌≡◌, ℕ, zero, suc, ◌+◌, ◌-◌, ◌<◌, ◌≤◌, List, [], ◌∷◌, length, get_or, replicate, set, sum, sym, ap, subst, ◌∙◌, inl, inr, ◌↔◌, arith}
+use Rattle.std.specs.Prelude.{ℤ, pos, negsuc, ◌+ℤ◌, ◌≤ℤ◌, All, Contains}
 use Rattle.std.specs.List.Sorted.{IsStrictlyIncreasing}
 use Rattle.std.proofs.lemmas.Bool.{cases_lt, cases_eq}
 use Rattle.std.proofs.lemmas.Int.{ints}
-use Rattle.std.proofs.lemmas.List.{length-replicate, length-set, get_or-set_same, get_or-set_other}
+use Rattle.std.proofs.lemmas.List.{length-replicate}
 use Rattle.std.proofs.lemmas.List.Elements.{Contains-get_or}
 use Rattle.std.proofs.lemmas.List.Kept.{AllPairs-from_increasing}
 use Rattle.sg_defs.specs.Invariants.{IsFrobenius}
@@ -19,8 +19,8 @@ use Rattle.sg_nonunique.specs.Omega.{IsOmega, IsOmegaOfSemigroup}
 use Rattle.sg_nonunique.proofs.PlaceLemmas.{inside}
 use Rattle.sg_nonunique.proofs.SumLemmas.{zero_or_positive, get_or-zeros, sum-zeros}
 use Rattle.sg_omega.specs.Lengths.{IsInAperySet, IsMade, IsGreatestMade, AreGreatestMade}
-use Rattle.sg_omega.specs.Minimal.{IsGreatestLength, IsGreatestOfAll, IsMinimalAbove}
-use Rattle.sg_omega.specs.Readings.{IsReached, IsGreatestReading}
+use Rattle.sg_omega.specs.Minimal.{IsGreatestOfAll, IsMinimalAbove}
+use Rattle.sg_omega.specs.Readings.{IsGreatestReading}
 use Rattle.sg_omega.proofs.MinimalLemmas.{minimal-below, omega-from_greatest, serves-iff}
 
 -- ---- the table of no generator

@@ -1,11 +1,11 @@
 -- Greatest numbers over lists, and what is read from tables of lengths.
-use Rattle.std.proofs.Common.{◌≡◌, ℕ, ◌+◌, ◌<◌, ◌≤◌, List, [], ◌∷◌, ◌++◌, length, get_or, take, sum, refl, sym, ap, subst, inl, inr, ◌↔◌, arith}
+use Rattle.std.proofs.Common.{◌≡◌, ℕ, ◌+◌, ◌<◌, ◌≤◌, List, [], ◌∷◌, length, get_or, take, sym, subst, inl, inr, ◌↔◌, arith}
 use Rattle.std.specs.Prelude.{◌⊎◌, Contains, max}
 use Rattle.std.proofs.lemmas.Bool.{cases_lt}
 use Rattle.std.proofs.lemmas.List.{take_all, take_more}
 use Rattle.std.proofs.lemmas.List.Elements.{Contains-append_left, Contains-push, Contains-push_cases}
 use Rattle.sg_finite.proofs.ElementLemmas.{contains-nil}
-use Rattle.sg_omega.specs.Lengths.{IsMade, AreGreatestMade, IsInAperySet, IsLowered}
+use Rattle.sg_omega.specs.Lengths.{AreGreatestMade}
 use Rattle.sg_omega.specs.Readings.{IsRead, IsReached, IsGreatestReading}
 
 -- g is one more than the greatest number that R has for an item, and 0 where there is none

@@ -1,5 +1,4 @@
-use Rattle.std.proofs.Common.{◌≡◌, ℕ, ◌+◌, ◌-◌, ◌<◌, ◌≤◌, List, length, get_or, set, max, min, sym, subst, ap, ◌∙◌, arith}
-use Rattle.sg_omega.specs.Lengths.{AreGreatestMade, IsInAperySet}
+use Rattle.std.proofs.Common.{◌≡◌, ℕ, ◌+◌, ◌-◌, ◌<◌, ◌≤◌, length, get_or, set, max, min, sym, subst, ap, ◌∙◌, arith}
 use Rattle.sg_omega.proofs.LengthLemmas.{AreMadeUpTo, made-first, made-next, made-last, bounded-next}
 use Rattle.sg_omega.proofs.lengths.add_generator.Goals as goal
 

@@ -1,4 +1,4 @@
-use Rattle.std.proofs.Common.{◌≡◌, ℕ, length, refl}
+use Rattle.std.proofs.Common.{ℕ, refl}
 use Rattle.sg_omega.specs.Lengths.{IsInAperySet, IsLowered}
 use Rattle.sg_omega.proofs.PartLemmas.{kept-none, kept-push, kept-skip, kept-all}
 use Rattle.sg_omega.proofs.parts.divided.Goals as goal

@@ -1,4 +1,4 @@
-use Rattle.std.proofs.Common.{ℕ, take}
+use Rattle.std.proofs.Common.{take}
 use Rattle.sg_omega.specs.Lengths.{IsInAperySet, IsLowered}
 use Rattle.sg_omega.proofs.PartLemmas.{IsKept}
 use Rattle.sg_omega.proofs.parts.divided.Given as goal

@@ -1,4 +1,4 @@
-use Rattle.std.proofs.Common.{◌+◌, ◌≡◌, ◌≤◌, ◌<◌, refl, subst, arith}
+use Rattle.std.proofs.Common.{refl, arith}
 use Rattle.sg_defs.specs.Membership.{IsMember}
 use Rattle.sg_classes.proofs.ListingLemmas.{lists-none, lists-push, lists-skip}
 use Rattle.sg_omega.proofs.parts.members_upto.Goals as goal

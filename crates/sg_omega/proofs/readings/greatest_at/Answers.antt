@@ -1,6 +1,6 @@
-use Rattle.std.proofs.Common.{ℕ, ◌+◌, ◌*◌, ◌<◌, get_or, length, refl, arith}
+use Rattle.std.proofs.Common.{ℕ, ◌+◌, ◌<◌, get_or, arith}
 use Rattle.std.proofs.lemmas.List.Elements.{Contains-get_or}
-use Rattle.sg_omega.proofs.ReadingLemmas.{IsGreatestOver, greatest-all, greatest-more, greatest-none}
+use Rattle.sg_omega.proofs.ReadingLemmas.{greatest-all, greatest-more, greatest-none}
 use Rattle.sg_omega.proofs.readings.greatest_at.Goals as goal
 
 pub loop-n-init : goal.loop-n-init

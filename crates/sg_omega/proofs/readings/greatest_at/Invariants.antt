@@ -1,4 +1,4 @@
-use Rattle.std.proofs.Common.{ℕ, ◌+◌, ◌<◌, get_or, take}
+use Rattle.std.proofs.Common.{◌+◌, ◌<◌, get_or, take}
 use Rattle.sg_omega.proofs.ReadingLemmas.{IsGreatestOver}
 use Rattle.sg_omega.proofs.readings.greatest_at.Given as goal
 

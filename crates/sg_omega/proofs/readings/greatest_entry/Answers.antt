@@ -1,6 +1,5 @@
-use Rattle.std.proofs.Common.{length, subst, sym}
 use Rattle.std.proofs.lemmas.List.Elements.{Contains-get_or}
-use Rattle.sg_omega.proofs.ReadingLemmas.{IsGreatestOver, IsReadAt, greatest-all, greatest-more, greatest-none, read-from_each}
+use Rattle.sg_omega.proofs.ReadingLemmas.{IsReadAt, greatest-all, greatest-more, greatest-none, read-from_each}
 use Rattle.sg_omega.proofs.readings.greatest_entry.Goals as goal
 
 pub loop-v-init : goal.loop-v-init

@@ -2,7 +2,7 @@ use Rattle.std.proofs.Common.{◌≡◌, ℕ, ◌+◌, ◌-◌, ◌<◌, ◌≤�
 use Rattle.std.specs.Prelude.{◌⊎◌, Contains}
 use Rattle.std.proofs.lemmas.Bool.{eqb-true}
 use Rattle.std.proofs.lemmas.List.{nil_from_length}
-use Rattle.sg_omega.specs.Lengths.{AreGreatestMade, IsInAperySet, IsLowered}
+use Rattle.sg_omega.specs.Lengths.{AreGreatestMade, IsLowered}
 use Rattle.sg_omega.specs.Readings.{IsRead, IsGreatestReading}
 use Rattle.sg_omega.proofs.LengthLemmas.{apery-decided, made-outside}
 use Rattle.sg_omega.proofs.ReadingLemmas.{reading-from_table, reading-none, reading-parts}
