@@ -1,10 +1,10 @@
 -- Arguments that are found among values, and what they stand for.
-use Rattle.std.proofs.Common.{◌≡◌, ℕ, ℤ, true, false, List, [], Option, Some, None, IsSome, slice_get, unwrap_or, refl, ap, ap₂, sym, ◌∙◌, subst}
+use Rattle.std.proofs.Common.{◌≡◌, ℕ, ℤ, List, [], Option, Some, None, IsSome, slice_get, unwrap_or, ap, ap₂, ◌∙◌, subst}
 use Rattle.std.specs.Option.{option_map}
 use Rattle.std.specs.Prelude.{IfSome, ⊤}
-use Rattle.sg_value.specs.Data.{Data, Items, EachThing, EachThingOfAll, semigroups, ideals}
+use Rattle.sg_value.specs.Data.{semigroups, ideals}
 use Rattle.sg_value.specs.Known.{Known, named}
-use Rattle.sg_value.specs.Plain.{AllKnown, AllKnownIn, IsKnown, Places, RelativeIdeal, contents, contents_of_all, nothing, thing_at}
+use Rattle.sg_value.specs.Plain.{AllKnown, AllKnownIn, IsKnown, RelativeIdeal, contents, contents_of_all, thing_at}
 use Rattle.sg_value.specs.declared.value.Value.{Value}
 use Rattle.sg_rows.specs.Kinds.{as_semigroup, as_ideal, as_integer, as_integers, one, both, two_semigroups, two_ideals, semigroup_and_integer, integer_then_semigroup, integer_then_ideal, list_then_semigroup}
 use Rattle.sg_rows.proofs.KindLemmas.{as_semigroup-each, as_ideal-each, semigroup_and_integer-each, one-each, both-each, any_some, one_semigroup-plain, one_ideal-plain, two_semigroups-plain, two_ideals-plain, semigroup_and_integer-plain, integer_then_semigroup-plain, integer_then_ideal-plain, list_then_semigroup-plain}

@@ -1,5 +1,5 @@
 -- Replies of rows by what was taken of the arguments.
-use Rattle.std.proofs.Common.{◌≡◌, Option, Some, None, Result, Ok, Err, refl, ap, sym, ◌∙◌, subst}
+use Rattle.std.proofs.Common.{◌≡◌, Option, Some, None, Result, Ok, Err, refl, sym, subst}
 use Rattle.std.specs.Prelude.{IfOk, MatchOption}
 use Rattle.sg_value.specs.Known.{Known}
 use Rattle.sg_value.specs.declared.value.Value.{Value}

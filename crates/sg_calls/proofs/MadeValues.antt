@@ -1,8 +1,8 @@
 -- What rows made, as values over a store.
 use Rattle.std.proofs.Common.{◌≡◌, ◌<◌, ◌≤◌, ℕ, ℤ, List, [], map, Some, Ok, Err, slice_get, unwrap_or, is_some, inr, refl, ap, sym, ◌∙◌, subst, arith}
-use Rattle.sg_value.specs.Data.{Data, Kind, int, list, semigroup, ideal, items_of, items_map, data_map, EachThing, depth_of, weight_of, ideals}
+use Rattle.sg_value.specs.Data.{Data, Kind, int, list, semigroup, ideal, items_of, data_map, EachThing, depth_of, weight_of, ideals}
 use Rattle.sg_value.specs.Known.{Known, named}
-use Rattle.sg_value.specs.Plain.{AllKnownIn, IsKnown, Things, contents, contents_of_all, nothing, plain_of_all, thing_at}
+use Rattle.sg_value.specs.Plain.{AllKnownIn, IsKnown, contents, contents_of_all, nothing, plain_of_all, thing_at}
 use Rattle.sg_value.specs.declared.limits.TheConstants.{WEIGHT_LIMIT}
 use Rattle.sg_value.specs.declared.value.Value.{Value}
 use Rattle.sg_value.specs.declared.value.Value.TheVariants as value

@@ -1,9 +1,8 @@
 -- Values that name semigroups of a store.
-use Rattle.std.proofs.Common.{◌≡◌, ◌+◌, ◌<◌, ◌≤◌, ℕ, List, [], ◌∷◌, ◌++◌, length, get_or, take, Some, Ok, Err, Vec, Global, map, unwrap_or, is_some, refl, ap, ap₂, sym, ◌∙◌, subst}
-use Rattle.sg_value.specs.Known.{Known, named}
+use Rattle.std.proofs.Common.{◌≡◌, ◌+◌, ◌<◌, ◌≤◌, ℕ, List, [], ◌∷◌, ◌++◌, length, get_or, take, Some, map, unwrap_or, is_some, refl, ap, ap₂, sym, ◌∙◌, subst}
 use Rattle.std.proofs.lemmas.List.{take_more, take_all}
-use Rattle.sg_value.specs.Data.{semigroup, list, items_of, item, data_map, EachThing, semigroups, EachThingOfAll, items_map}
-use Rattle.sg_value.specs.Plain.{Named, IsKept, IsKnown, AllKnownIn, contents, plain, plain_of_all, thing_at, Entries, contents_of_all}
+use Rattle.sg_value.specs.Data.{semigroup, items_of, item, data_map, EachThing, semigroups}
+use Rattle.sg_value.specs.Plain.{Named, IsKept, IsKnown, AllKnownIn, contents, plain_of_all, thing_at}
 use Rattle.sg_value.specs.declared.value.Value.{Value}
 use Rattle.sg_value.specs.declared.value.Value.TheVariants as value
 

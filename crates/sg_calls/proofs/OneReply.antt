@@ -1,5 +1,5 @@
 -- Commands and operators have one reply.
-use Rattle.std.proofs.Common.{◌≡◌, ℕ, ℤ, List, Option, Some, None, sym, ◌∙◌}
+use Rattle.std.proofs.Common.{ℕ, ℤ, List, Option, Some, None, sym, ◌∙◌}
 use Rattle.sg_value.specs.Plain.{Things}
 use Rattle.sg_defs.specs.Membership.{IsIntegerMember}
 use Rattle.sg_value.specs.Data.{Items}

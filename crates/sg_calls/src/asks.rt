@@ -156,10 +156,7 @@ pub fn list_then_table(
 }
 
 /// The minimal lists of the one argument, where it is an ideal. Nothing is asked for.
-pub fn one_ideal_by_lists<'a>(
-    store: &'a Store,
-    args: &[Value],
-) -> Option<(&'a Nats, &'a Ints)>
+pub fn one_ideal_by_lists<'a>(store: &'a Store, args: &[Value]) -> Option<(&'a Nats, &'a Ints)>
     requires { AllKnownIn (named store.now) args.now }
     ensures { MatchOption result (the_ideal store.now args.now ≡ None) (λ p. (the_ideal store.now args.now ≡ Some (over p.0.now p.1.now)) × IsLawfulIdeal p.0.now p.1.now) }
 {
@@ -183,11 +180,7 @@ pub fn table_of_ideal(
 }
 
 /// The table of the semigroup of a known ideal, and the ideal.
-fn ideal_at(
-    alloc: Global,
-    store: &mut Store,
-    id: IdealId,
-) -> Result<(Rc<Table>, Ideal), AllocError>
+fn ideal_at(alloc: Global, store: &mut Store, id: IdealId) -> Result<(Rc<Table>, Ideal), AllocError>
     requires { IsSome (slice_get store.old.ideals id) }
     ensures ideal { IfOk result (λ p. (p.1 ≡ thing_at (named store.old) ideals id) × (p.1.ambient ≡ p.0.value)) }
     ensures unchanged { store.new ≡ store.old }

@@ -223,12 +223,7 @@ fn of_generated(alloc: Global, store: &mut Store, args: &[Value]) -> Result<Valu
 }
 
 /// An ideal of two.
-fn of_pair(
-    alloc: Global,
-    store: &mut Store,
-    pair: Pair,
-    args: &[Value],
-) -> Result<Value, CallFault>
+fn of_pair(alloc: Global, store: &mut Store, pair: Pair, args: &[Value]) -> Result<Value, CallFault>
     requires { AllKnownIn (named store.old) args.now }
     ensures reply { Replies result store.new (of_two_ideals (plain_of_all (named store.old) args.now) (pair_row pair)) }
     ensures keeps { Keeps store.old store.new }

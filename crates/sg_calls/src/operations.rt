@@ -109,7 +109,11 @@ fn plus(alloc: Global, store: &mut Store, a: &Value, b: &Value) -> Result<Value,
     }
     match two_ideals(alloc, store, a, b)? {
         Some(((table, one), (_, other))) => {
-            deliver(alloc, store, pair_of(alloc, Pair::Sum, &table, &one, &other))
+            deliver(
+                alloc,
+                store,
+                pair_of(alloc, Pair::Sum, &table, &one, &other),
+            )
         }
         None => on_ideal_or_list(alloc, store, a, b),
     }
@@ -128,7 +132,11 @@ fn less(alloc: Global, store: &mut Store, a: &Value, b: &Value) -> Result<Value,
     let Some(((table, one), (_, other))) = two_ideals(alloc, store, a, b)? else {
         return Err(CallFault::Script(Fault::WrongType));
     };
-    deliver(alloc, store, pair_of(alloc, Pair::Difference, &table, &one, &other))
+    deliver(
+        alloc,
+        store,
+        pair_of(alloc, Pair::Difference, &table, &one, &other),
+    )
 }
 
 /// The operator `*`: of two integers, or of an integer and an ideal.

@@ -1,8 +1,8 @@
-use Rattle.std.proofs.Common.{◌≡◌, Some, sym, ◌∙◌, rules}
+use Rattle.std.proofs.Common.{sym, ◌∙◌, rules}
 use Rattle.std.specs.Prelude.{FitsSigned}
 use Rattle.std.specs.Int.{w64}
 use Rattle.sg_value.specs.Known.{named}
-use Rattle.sg_value.specs.Plain.{contents, plain, plain_of_all, thing_at}
+use Rattle.sg_value.specs.Plain.{contents, plain_of_all, thing_at}
 use Rattle.sg_rows.specs.Kinds.{two, two_integers}
 use Rattle.sg_rows.specs.Made.{Tells}
 use Rattle.sg_rows.proofs.KindLemmas.{two_at, two_integers-plain, two_plain-none}

@@ -11,7 +11,7 @@ pub deliver-requires : goal.deliver-requires
 deliver-requires g c =
     let sole = one as_semigroup (plain_of_all (named c.args.store.now) c.args.args.now) in
     let found =
-        found_some (sole ≡ None) (λ numbers. (G : List ℕ) × (sole ≡ Some G) × ListsIntegers (IsPseudoFrobenius G) numbers.value) c.in_ok-numbers.field-0 c.in_ok-numbers.ensures.numbers c.in-Some.numbers c.in-Some.is
+    found_some (sole ≡ None) (λ numbers. (G : List ℕ) × (sole ≡ Some G) × ListsIntegers (IsPseudoFrobenius G) numbers.value) c.in_ok-numbers.field-0 c.in_ok-numbers.ensures.numbers c.in-Some.numbers c.in-Some.is
     in
     sound_told c.tell.result (g.R.OfNumbers.says c.args.row found.0) (c.tell.ensures found.0 (subst (ListsIntegers (IsPseudoFrobenius found.0)) (sym c.deref.ensures) found.2))
 
@@ -19,7 +19,7 @@ pub returns-clause-reply : goal.returns-clause-reply
 returns-clause-reply g c =
     let sole = one as_semigroup (plain_of_all (named c.args.store.now) c.args.args.now) in
     let found =
-        found_some (sole ≡ None) (λ numbers. (G : List ℕ) × (sole ≡ Some G) × ListsIntegers (IsPseudoFrobenius G) numbers.value) c.in_ok-numbers.field-0 c.in_ok-numbers.ensures.numbers c.in-Some.numbers c.in-Some.is
+    found_some (sole ≡ None) (λ numbers. (G : List ℕ) × (sole ≡ Some G) × ListsIntegers (IsPseudoFrobenius G) numbers.value) c.in_ok-numbers.field-0 c.in_ok-numbers.ensures.numbers c.in-Some.numbers c.in-Some.is
     in
     fitted_told sole (g.R.OfNumbers.says c.args.row) c.deliver.new.store found.0 c.tell.result c.deliver.result found.1 c.deliver.ensures.delivered
     (c.tell.ensures found.0 (subst (ListsIntegers (IsPseudoFrobenius found.0)) (sym c.deref.ensures) found.2))

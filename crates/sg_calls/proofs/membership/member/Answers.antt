@@ -41,7 +41,7 @@ returns-in-Some-2-clause-reply c =
     let fit : FitsSigned w64 x = search rules in
     let no_list = as_list-plain (thing_at names) (contents c.args.whole.now) ∙ ap (option_map (items_map (thing_at names))) c.in_default.ensures in
     let found : integer_then_semigroup a b ≡ Some (x, G) =
-        subst (λ o. MatchOption o (integer_then_semigroup a b ≡ None) (λ p. integer_then_semigroup a b ≡ Some (p.0, p.1.value))) c.in-Some-2.is c.in_ok-x.ensures.both
+    subst (λ o. MatchOption o (integer_then_semigroup a b ≡ None) (λ p. integer_then_semigroup a b ≡ Some (p.0, p.1.value))) c.in-Some-2.is c.in_ok-x.ensures.both
     in
     let tells = of_bits_right (λ z. IsTrue yes ↔ IsIntegerMember c.deref.result.now z) x fit c.contains.ensures in
     other_fitted (as_list b) (λ ds. answers (whether (IsEntry a ds))) store (Ok (value.Bool yes)) (or_else (on_integer_and_semigroup a b (λ z H. answers (whether (IsIntegerMember H z)))) (on_integer_and_ideal a b member_row)) no_list
