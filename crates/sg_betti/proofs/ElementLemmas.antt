@@ -1,10 +1,10 @@
 -- Elements with two classes, by a search from one place.
 use Rattle.std.proofs.Common.{◌≡◌, ℕ, ◌+◌, ◌<◌, ◌≤◌, List, [], ◌∷◌, ◌++◌, length, get_or, refl, sym, subst, ◌∙◌, inl, inr, arith}
 use Rattle.std.specs.Prelude.{◌⊎◌, ◌↔◌, All, Contains}
-use Rattle.std.proofs.lemmas.Bool.{cases_lt, cases_eq}
+use Rattle.std.proofs.lemmas.Bool.{cases_lt}
 use Rattle.sg_defs.specs.Apery.{IsApery}
 use Rattle.sg_defs.specs.Membership.{IsFactorization, IsMember}
-use Rattle.sg_nonunique.specs.Classes.{HasTwoClasses, IsSameClass}
+use Rattle.sg_nonunique.specs.Classes.{HasTwoClasses}
 use Rattle.sg_families.specs.PlaceGraph.{AreConnected, IsVertex}
 use Rattle.sg_families.proofs.BettiLemmas.{betti-candidate, no_classes_of_zero}
 use Rattle.sg_families.proofs.PlaceClasses.{class-by_places, number-vertex}
@@ -14,7 +14,7 @@ use Rattle.sg_betti.specs.Links.{IsParted}
 use Rattle.sg_betti.specs.Sums.{IsSumBelow}
 use Rattle.sg_betti.proofs.CandidateLemmas.{candidate-listed}
 use Rattle.sg_betti.proofs.GraphLemmas.{connected-back, connected-then, some-positive}
-use Rattle.sg_betti.proofs.SetLemmas.{IsAmongFirst, set-pushed}
+use Rattle.sg_betti.proofs.SetLemmas.{set-pushed}
 
 -- the later generator of a sum is a place of its graph
 pub sum-vertex : (G : List ℕ) (rest j n : ℕ) → j < length G → IsMember G rest → n ≡ rest + get_or G j 0 → IsVertex (IsFactorization G n) j

@@ -1,7 +1,7 @@
 -- The components of the graph of an element, found from the least place on, and the classes that they stand for.
-use Rattle.std.proofs.Common.{◌≡◌, ◌≢◌, ℕ, ◌+◌, ◌<◌, ◌≤◌, List, [], ◌∷◌, ◌++◌, length, get_or, replicate, sym, ap, subst, ◌∙◌, inl, inr, arith}
-use Rattle.std.specs.Prelude.{◌⊎◌, ◌↔◌, All, AllPairs, Contains}
-use Rattle.std.proofs.lemmas.Bool.{cases_lt, cases_eq, cases_order}
+use Rattle.std.proofs.Common.{◌≡◌, ℕ, ◌+◌, ◌<◌, ◌≤◌, List, [], ◌∷◌, ◌++◌, length, get_or, sym, ap, subst, ◌∙◌, inl, inr, arith}
+use Rattle.std.specs.Prelude.{All, AllPairs, Contains}
+use Rattle.std.proofs.lemmas.Bool.{cases_lt, cases_eq}
 use Rattle.std.proofs.lemmas.List.{get_or_default}
 use Rattle.std.proofs.lemmas.List.Elements.{All-contains, All-nil, All-push, Contains-append_left, Contains-push, Contains-push_cases}
 use Rattle.std.proofs.lemmas.List.Kept.{AllPairs-cons, AllPairs-from_increasing}
@@ -12,7 +12,7 @@ use Rattle.sg_defs.proofs.VectorLemmas.{value_of-zeros}
 use Rattle.sg_nonunique.specs.Classes.{IsSameClass}
 use Rattle.sg_nonunique.proofs.SumLemmas.{zero_or_positive}
 use Rattle.sg_nonunique.proofs.WalkLemmas.{joined-back, joined-end, joined-here, joined-then}
-use Rattle.sg_finite.proofs.ElementLemmas.{all-from_contained, contains-nil, pairs-append, pairs-nil}
+use Rattle.sg_finite.proofs.ElementLemmas.{contains-nil, pairs-append, pairs-nil}
 use Rattle.sg_families.specs.PlaceGraph.{AreConnected, IsEdge, IsVertex}
 use Rattle.sg_families.proofs.ClassLemmas.{class-here}
 use Rattle.sg_families.proofs.PlaceClasses.{class-by_places}

@@ -1,11 +1,9 @@
 -- The canonical relations of listed elements, one element after the other.
-use Rattle.std.proofs.Common.{◌≡◌, ℕ, ◌+◌, ◌<◌, ◌≤◌, List, [], ◌++◌, length, get_or, sym, subst, ◌∙◌, inl, inr, arith}
+use Rattle.std.proofs.Common.{◌≡◌, ℕ, ◌+◌, ◌<◌, List, [], length, get_or, sym, subst, ◌∙◌, inl, inr, arith}
 use Rattle.std.specs.Prelude.{◌↔◌, AllPairs, Contains}
-use Rattle.std.proofs.lemmas.Bool.{cases_lt}
 use Rattle.std.proofs.lemmas.List.Elements.{Contains-append_cases, Contains-append_left, Contains-append_right, Contains-get_or}
 use Rattle.std.proofs.lemmas.List.Kept.{AllPairs-from_increasing}
 use Rattle.sg_defs.specs.Listings.{Lists}
-use Rattle.sg_defs.specs.Membership.{IsFactorization}
 use Rattle.sg_nonunique.specs.Classes.{HasTwoClasses}
 use Rattle.sg_nonunique.specs.Presentations.{IsCanonical, IsCanonicalRelation, Relation}
 use Rattle.sg_finite.proofs.ElementLemmas.{contains-nil, pairs-append, pairs-nil}

@@ -1,26 +1,26 @@
 -- The greatest factorizations of the classes of an element, by the first places of its components, and the canonical
 -- relations between them.
-use Rattle.std.proofs.Common.{◌≡◌, ◌≢◌, ℕ, zero, suc, ◌+◌, ◌-◌, ◌*◌, ◌<◌, ◌≤◌, List, [], ◌∷◌, ◌++◌, length, get_or, refl, sym, ap, subst, ◌∙◌, inl, inr, append_assoc, arith}
-use Rattle.std.specs.Prelude.{◌⊎◌, ◌↔◌, All, AllPairs, Contains}
+use Rattle.std.proofs.Common.{◌≡◌, ℕ, zero, suc, ◌+◌, ◌-◌, ◌<◌, ◌≤◌, List, [], ◌∷◌, ◌++◌, length, get_or, refl, sym, ap, subst, ◌∙◌, inl, inr, append_assoc, arith}
+use Rattle.std.specs.Prelude.{◌↔◌, All, AllPairs, Contains}
 use Rattle.std.proofs.Math.Nat.{mul-le-mul_left}
 use Rattle.std.proofs.lemmas.Bool.{cases_lt, cases_eq}
 use Rattle.std.proofs.lemmas.List.{append-nil, get_or_default}
-use Rattle.std.proofs.lemmas.List.Elements.{All-contains, All-nil, Contains-append_left, Contains-push, Contains-push_cases}
+use Rattle.std.proofs.lemmas.List.Elements.{All-nil, Contains-append_left, Contains-push, Contains-push_cases}
 use Rattle.std.proofs.lemmas.List.Kept.{AllPairs-cons, AllPairs-from_increasing}
-use Rattle.sg_defs.specs.Membership.{IsFactorization, IsMember}
+use Rattle.sg_defs.specs.Membership.{IsFactorization}
 use Rattle.sg_defs.specs.Vectors.{value_of, IsLexBelow}
-use Rattle.sg_nonunique.specs.Classes.{HasTwoClasses, IsSameClass}
-use Rattle.sg_nonunique.specs.Places.{lower, raise}
-use Rattle.sg_nonunique.specs.Presentations.{IsCanonical, IsCanonicalRelation, IsLexGreatest, Relation}
+use Rattle.sg_nonunique.specs.Classes.{IsSameClass}
+use Rattle.sg_nonunique.specs.Places.{raise}
+use Rattle.sg_nonunique.specs.Presentations.{IsCanonicalRelation, IsLexGreatest, Relation}
 use Rattle.sg_nonunique.proofs.OrderLemmas.{lex-then}
 use Rattle.sg_nonunique.proofs.PlaceLemmas.{length-lower, length-raise, value_of-lower, value_of-raise}
 use Rattle.sg_finite.proofs.ElementLemmas.{contains-nil, pairs-append, pairs-nil}
 use Rattle.sg_families.specs.PlaceGraph.{AreConnected, IsFirstPlace, IsVertex}
-use Rattle.sg_families.proofs.CanonicalLemmas.{IsBefore, greatest-of_class, one-greatest, top-exists}
+use Rattle.sg_families.proofs.CanonicalLemmas.{greatest-of_class, one-greatest, top-exists}
 use Rattle.sg_families.proofs.ClassLemmas.{class-back, class-end, class-here, class-then}
 use Rattle.sg_families.proofs.ClassOrder.{greatest-by_first, greatest-raised}
 use Rattle.sg_families.proofs.Families.{numbers-family}
-use Rattle.sg_families.proofs.PlaceClasses.{class-by_places, number-vertex}
+use Rattle.sg_families.proofs.PlaceClasses.{class-by_places}
 use Rattle.sg_betti.specs.Components.{AreComponents}
 use Rattle.sg_betti.specs.Raised.{AddsRelations, IsGreatestFrom, head_of}
 use Rattle.sg_betti.proofs.GraphLemmas.{IsComponent, connected-then, first-contained, first-least, row-connected, some-positive}

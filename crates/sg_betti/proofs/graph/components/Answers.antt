@@ -1,4 +1,4 @@
-use Rattle.std.proofs.Common.{◌≡◌, ◌+◌, ◌<◌, ◌∷◌, ◌++◌, [], length, sym, ap, subst, ◌∙◌, arith}
+use Rattle.std.proofs.Common.{◌+◌, length, sym, ap, subst, ◌∙◌, arith}
 use Rattle.sg_defs.specs.Membership.{IsFactorization}
 use Rattle.sg_betti.proofs.GraphLemmas.{AreFirstComponents, components-all, components-are_classes, components-none, components-passed, components-pushed}
 use Rattle.sg_betti.proofs.SearchLemmas.{vertex-inside}
