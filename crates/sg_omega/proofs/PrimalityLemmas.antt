@@ -18,6 +18,9 @@ use Rattle.sg_finite.proofs.ElementLemmas.{all-from_contained}
 use Rattle.sg_nonunique.specs.Omega.{IsOmega, IsOmegaOfSemigroup}
 use Rattle.sg_nonunique.proofs.PlaceLemmas.{inside}
 use Rattle.sg_nonunique.proofs.SumLemmas.{zero_or_positive, get_or-zeros, sum-zeros}
+use Rattle.sg_defs.proofs.OneLemmas.{one-frobenius}
+use Rattle.sg_omega.specs.declared.limits.TheConstants.{OMEGA_LIMIT}
+use Rattle.sg_omega.specs.Limits.{IsWithinLimit}
 use Rattle.sg_omega.specs.Lengths.{IsInAperySet, IsMade, IsGreatestMade, AreGreatestMade}
 use Rattle.sg_omega.specs.Minimal.{IsGreatestOfAll, IsMinimalAbove}
 use Rattle.sg_omega.specs.Readings.{IsGreatestReading}
@@ -84,6 +87,15 @@ apery-bound G (negsuc (suc k)) h v g set = absurd (h.above (negsuc 0) (omega (ar
 -- 0 lies in the Apery set of each generator
 zero-apery : (G : List ℕ) (g : ℕ) → 0 < g → IsInAperySet G 0 g
 zero-apery G g positive y e member = omega arith
+
+-- a semigroup has one span, so what is within the limit with one is so with each
+pub within-limit : (G : List ℕ) (n s : ℕ) → IsWithinLimit G n → IsSpan G s → n + s ≤ OMEGA_LIMIT
+within-limit G n s h k =
+    let e = one-frobenius G h.1.0 k.0 h.1.1 k.1 in
+    let a = h.1.2 in
+    let b = k.2 in
+    let l = h.2 in
+    omega (arith, ints, a, b, e, l)
 
 -- the multiplicity is within the span
 pub multiplicity-within : (G : List ℕ) → IsNumericalSemigroup G → IsMinimal G → (s : ℕ) → IsSpan G s → get_or G 0 0 ≤ s

@@ -1,3 +1,4 @@
 pub mod Minimal
 pub mod Lengths
 pub mod Readings
+pub mod Limits

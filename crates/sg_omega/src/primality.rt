@@ -1,13 +1,13 @@
 //! Omega primality.
 
-ghost use Rattle.std.specs.Prelude.{◌-◌, ◌+◌, ◌<◌, ◌≤◌, ℕ, length, All, IfOk, slice_index};
-ghost use Rattle.sg_apery.specs.Fit.{IsNarrow, IsSpan};
+ghost use Rattle.std.specs.Prelude.{◌-◌, ◌<◌, ◌≤◌, length, All, IfOk, slice_index};
+ghost use Rattle.sg_apery.specs.Fit.{IsNarrow};
 ghost use Rattle.sg_defs.specs.Membership.{IsMember};
 ghost use Rattle.sg_nonunique.specs.Omega.{IsOmega, IsOmegaOfSemigroup};
+ghost use Rattle.sg_omega.specs.Limits.{IsWithinLimit};
 ghost use Rattle.sg_omega.specs.Minimal.{IsGreatestOfAll};
 
 use crate::lengths::start_table;
-use crate::limits::OMEGA_LIMIT;
 use crate::parts::members_upto;
 use crate::walk::walk;
 use sg_apery::Table;
@@ -23,7 +23,7 @@ fn greatest_minimal_length(
     requires some { 0 < length wanted.now }
     requires members { All (IsMember t.now) wanted.now }
     requires most { All (λ n. n ≤ most) wanted.now }
-    requires small { (s : ℕ) → IsSpan t.now s → most + s ≤ OMEGA_LIMIT }
+    requires small { IsWithinLimit t.now most }
     ensures { IfOk result (IsGreatestOfAll t.now wanted.now) }
 {
     let places = t.generators().len();
@@ -40,7 +40,7 @@ fn greatest_minimal_length(
 pub fn omega_of_element(alloc: Global, t: &Table, n: u64) -> Result<u64, AllocError>
     requires narrow { IsNarrow t.now }
     requires member { IsMember t.now n }
-    requires small { (s : ℕ) → IsSpan t.now s → n + s ≤ OMEGA_LIMIT }
+    requires small { IsWithinLimit t.now n }
     ensures { IfOk result (IsOmega t.now n) }
 {
     greatest_minimal_length(alloc, t, [n].as_slice(), n)
@@ -50,7 +50,7 @@ pub fn omega_of_element(alloc: Global, t: &Table, n: u64) -> Result<u64, AllocEr
 /// from the same tables.
 pub fn omega(alloc: Global, t: &Table) -> Result<u64, AllocError>
     requires narrow { IsNarrow t.now }
-    requires small { (s : ℕ) → IsSpan t.now s → slice_index t.now (length t.now - 1) + s ≤ OMEGA_LIMIT }
+    requires small { IsWithinLimit t.now (slice_index t.now (length t.now - 1)) }
     ensures { IfOk result (IsOmegaOfSemigroup t.now) }
 {
     let generators = t.generators().as_slice();

@@ -1,7 +1,7 @@
 use Rattle.std.proofs.Common.{◌≡◌, ℕ, ◌+◌, ◌-◌, ◌<◌, ◌≤◌, List, length, get_or, sym, subst, ap, ◌∙◌, arith}
 use Rattle.sg_omega.specs.Lengths.{AreGreatestMade}
 use Rattle.sg_omega.specs.Minimal.{IsGreatestOfAll}
-use Rattle.sg_omega.proofs.PrimalityLemmas.{greatest-found, multiplicity-within}
+use Rattle.sg_omega.proofs.PrimalityLemmas.{greatest-found, multiplicity-within, within-limit}
 use Rattle.sg_omega.proofs.primality.greatest_minimal_length.Goals as goal
 
 pub overflow_sub-last : goal.overflow_sub-last
@@ -9,16 +9,16 @@ overflow_sub-last c =
     omega (arith, multiplicity-within c.args.t.now c.generators.ensures.semigroup c.generators.ensures.minimal c.span.result c.span.ensures, c.multiplicity.ensures.first)
 
 pub members_upto-requires : goal.members_upto-requires
-members_upto-requires c = omega (arith, c.requires.small c.span.result c.span.ensures)
+members_upto-requires c = omega (arith, within-limit c.args.t.now c.args.most c.span.result c.requires.small c.span.ensures)
 
 pub overflow_add-most : goal.overflow_add-most
-overflow_add-most c = omega (arith, c.requires.small c.span.result c.span.ensures)
+overflow_add-most c = omega (arith, within-limit c.args.t.now c.args.most c.span.result c.requires.small c.span.ensures)
 
 pub start_table-requires : goal.start_table-requires
-start_table-requires c = omega (arith, c.requires.small c.span.result c.span.ensures)
+start_table-requires c = omega (arith, within-limit c.args.t.now c.args.most c.span.result c.requires.small c.span.ensures)
 
 pub walk-requires-clause-short : goal.walk-requires-clause-short
-walk-requires-clause-short c = omega (arith, c.requires.small c.span.result c.span.ensures, ap length c.deref.ensures.value, c.in_ok-table.ensures.long)
+walk-requires-clause-short c = omega (arith, within-limit c.args.t.now c.args.most c.span.result c.requires.small c.span.ensures, ap length c.deref.ensures.value, c.in_ok-table.ensures.long)
 
 pub walk-requires-clause-bounded : goal.walk-requires-clause-bounded
 walk-requires-clause-bounded c = subst (λ (l : List ℕ). (x : ℕ) → x < length l → get_or l x 0 ≤ x + 1) (sym c.deref.ensures.value) c.in_ok-table.ensures.bounded

@@ -1,11 +1,10 @@
-use Rattle.std.proofs.Common.{◌≡◌, ℕ, ◌+◌, ◌-◌, ◌≤◌, List, length, get_or, sym, subst, ◌∙◌}
+use Rattle.std.proofs.Common.{◌≡◌, ℕ, ◌-◌, ◌≤◌, List, length, get_or, sym, subst, ◌∙◌}
 use Rattle.std.specs.Prelude.{All}
 use Rattle.std.proofs.lemmas.Result.{IfOk-weaker}
-use Rattle.sg_classes.specs.Fit.{IsSpan}
 use Rattle.sg_defs.specs.Membership.{IsMember}
 use Rattle.sg_nonunique.specs.Omega.{IsOmegaOfSemigroup}
+use Rattle.sg_omega.specs.Limits.{IsWithinLimit}
 use Rattle.sg_omega.specs.Minimal.{IsGreatestOfAll}
-use Rattle.sg_omega.specs.declared.limits.TheConstants.{OMEGA_LIMIT}
 use Rattle.sg_omega.proofs.PrimalityLemmas.{generators-bounded, generators-members, omega-of_all}
 use Rattle.sg_omega.proofs.primality.omega.Goals as goal
 
@@ -25,7 +24,7 @@ pub greatest_minimal_length-requires-clause-small : goal.greatest_minimal_length
 greatest_minimal_length-requires-clause-small c =
     let G = c.args.t.now in
     let same : c.as_slice-generators.result.now ≡ G = c.as_slice-generators.ensures ∙ c.generators.ensures.same in
-    subst (λ (xs : List ℕ). (s : ℕ) → IsSpan G s → get_or xs (length xs - 1) 0 + s ≤ OMEGA_LIMIT) (sym same) c.requires.small
+    subst (λ (xs : List ℕ). IsWithinLimit G (get_or xs (length xs - 1) 0)) (sym same) c.requires.small
 
 pub returns : goal.returns
 returns c =
