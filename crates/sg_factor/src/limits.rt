@@ -2,3 +2,6 @@
 
 /// The greatest element whose lengths are told.
 pub const LENGTH_LIMIT: u64 = 16_777_216;
+
+/// No more factorizations of an element than this are listed.
+pub const FACTORIZATION_LIMIT: usize = 1_000_000;
