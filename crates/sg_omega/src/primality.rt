@@ -36,7 +36,8 @@ fn greatest_minimal_length(
 
 /// The omega primality of a member: the least number N such that below each vector whose value is the member and another
 /// member lies one of length at most N that is such a vector as well (Geroldinger and Halter-Koch, Non-Unique
-/// Factorizations, 2006). Of 0 it is 0.
+/// Factorizations, 2006). Of 0 it is 0. The semigroup is narrow, n is a member, and n and the span are at most
+/// `OMEGA_LIMIT` together; want of memory is the one refusal.
 pub fn omega_of_element(alloc: Global, t: &Table, n: u64) -> Result<u64, AllocError>
     requires narrow { IsNarrow t.now }
     requires member { IsMember t.now n }
@@ -47,7 +48,8 @@ pub fn omega_of_element(alloc: Global, t: &Table, n: u64) -> Result<u64, AllocEr
 }
 
 /// The omega primality of a numerical semigroup: the greatest of those of its minimal generators, all of which are read
-/// from the same tables.
+/// from the same tables. The semigroup is narrow, and its greatest generator and the span are at most `OMEGA_LIMIT`
+/// together; want of memory is the one refusal.
 pub fn omega(alloc: Global, t: &Table) -> Result<u64, AllocError>
     requires narrow { IsNarrow t.now }
     requires small { IsWithinLimit t.now (slice_index t.now (length t.now - 1)) }
