@@ -5,11 +5,11 @@ use Rattle.std.proofs.lemmas.Bool.{cases_lt}
 use Rattle.sg_defs.specs.Apery.{IsApery}
 use Rattle.sg_defs.specs.Membership.{IsFactorization, IsMember}
 use Rattle.sg_nonunique.specs.Classes.{HasTwoClasses}
-use Rattle.sg_families.specs.PlaceGraph.{AreConnected, IsVertex}
-use Rattle.sg_families.proofs.BettiLemmas.{betti-candidate, no_classes_of_zero}
-use Rattle.sg_families.proofs.PlaceClasses.{class-by_places, number-vertex}
+use Rattle.sg_laws_families.specs.PlaceGraph.{AreConnected, IsVertex}
+use Rattle.sg_laws_families.proofs.BettiLemmas.{betti-candidate, no_classes_of_zero}
+use Rattle.sg_laws_families.proofs.PlaceClasses.{class-by_places, number-vertex}
 use Rattle.sg_defs.specs.Listings.{Lists}
-use Rattle.sg_finite.proofs.ElementLemmas.{all-from_contained, contains-nil, here}
+use Rattle.sg_laws_finite.proofs.ElementLemmas.{all-from_contained, contains-nil, here}
 use Rattle.sg_betti.specs.Links.{IsParted}
 use Rattle.sg_betti.specs.Sums.{IsSumBelow}
 use Rattle.sg_betti.proofs.CandidateLemmas.{candidate-listed}

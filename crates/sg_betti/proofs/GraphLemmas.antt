@@ -12,10 +12,10 @@ use Rattle.sg_defs.proofs.VectorLemmas.{value_of-zeros}
 use Rattle.sg_nonunique.specs.Classes.{IsSameClass}
 use Rattle.sg_nonunique.proofs.SumLemmas.{zero_or_positive}
 use Rattle.sg_nonunique.proofs.WalkLemmas.{joined-back, joined-end, joined-here, joined-then}
-use Rattle.sg_finite.proofs.ElementLemmas.{contains-nil, pairs-append, pairs-nil}
-use Rattle.sg_families.specs.PlaceGraph.{AreConnected, IsEdge, IsVertex}
-use Rattle.sg_families.proofs.ClassLemmas.{class-here}
-use Rattle.sg_families.proofs.PlaceClasses.{class-by_places}
+use Rattle.sg_laws_finite.proofs.ElementLemmas.{contains-nil, pairs-append, pairs-nil}
+use Rattle.sg_laws_families.specs.PlaceGraph.{AreConnected, IsEdge, IsVertex}
+use Rattle.sg_laws_families.proofs.ClassLemmas.{class-here}
+use Rattle.sg_laws_families.proofs.PlaceClasses.{class-by_places}
 use Rattle.sg_betti.specs.Components.{AreClassRows, AreComponents, AreInOneRow}
 
 -- an entry of an ascending list is not below the first one

@@ -6,9 +6,9 @@ use Rattle.std.proofs.lemmas.List.Kept.{AllPairs-from_increasing}
 use Rattle.sg_defs.specs.Listings.{Lists}
 use Rattle.sg_nonunique.specs.Classes.{HasTwoClasses}
 use Rattle.sg_nonunique.specs.Presentations.{IsCanonical, IsCanonicalRelation, Relation}
-use Rattle.sg_finite.proofs.ElementLemmas.{contains-nil, pairs-append, pairs-nil}
-use Rattle.sg_families.proofs.CanonicalLemmas.{IsBefore}
-use Rattle.sg_families.proofs.ClassLemmas.{class-end}
+use Rattle.sg_laws_finite.proofs.ElementLemmas.{contains-nil, pairs-append, pairs-nil}
+use Rattle.sg_laws_families.proofs.CanonicalLemmas.{IsBefore}
+use Rattle.sg_laws_families.proofs.ClassLemmas.{class-end}
 use Rattle.sg_betti.specs.Raised.{AddsRelations}
 use Rattle.sg_betti.proofs.SetLemmas.{IsAmongFirst, among-all, among-more, among-none}
 

@@ -14,13 +14,13 @@ use Rattle.sg_nonunique.specs.Places.{raise}
 use Rattle.sg_nonunique.specs.Presentations.{IsCanonicalRelation, IsLexGreatest, Relation}
 use Rattle.sg_nonunique.proofs.OrderLemmas.{lex-then}
 use Rattle.sg_nonunique.proofs.PlaceLemmas.{length-lower, length-raise, value_of-lower, value_of-raise}
-use Rattle.sg_finite.proofs.ElementLemmas.{contains-nil, pairs-append, pairs-nil}
-use Rattle.sg_families.specs.PlaceGraph.{AreConnected, IsFirstPlace, IsVertex}
-use Rattle.sg_families.proofs.CanonicalLemmas.{greatest-of_class, one-greatest, top-exists}
-use Rattle.sg_families.proofs.ClassLemmas.{class-back, class-end, class-here, class-then}
-use Rattle.sg_families.proofs.ClassOrder.{greatest-by_first, greatest-raised}
-use Rattle.sg_families.proofs.Families.{numbers-family}
-use Rattle.sg_families.proofs.PlaceClasses.{class-by_places}
+use Rattle.sg_laws_finite.proofs.ElementLemmas.{contains-nil, pairs-append, pairs-nil}
+use Rattle.sg_laws_families.specs.PlaceGraph.{AreConnected, IsFirstPlace, IsVertex}
+use Rattle.sg_laws_families.proofs.CanonicalLemmas.{greatest-of_class, one-greatest, top-exists}
+use Rattle.sg_laws_families.proofs.ClassLemmas.{class-back, class-end, class-here, class-then}
+use Rattle.sg_laws_families.proofs.ClassOrder.{greatest-by_first, greatest-raised}
+use Rattle.sg_laws_families.proofs.Families.{numbers-family}
+use Rattle.sg_laws_families.proofs.PlaceClasses.{class-by_places}
 use Rattle.sg_betti.specs.Components.{AreComponents}
 use Rattle.sg_betti.specs.Raised.{AddsRelations, IsGreatestFrom, head_of}
 use Rattle.sg_betti.proofs.GraphLemmas.{IsComponent, connected-then, first-contained, first-least, row-connected, some-positive}

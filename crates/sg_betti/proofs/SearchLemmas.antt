@@ -10,9 +10,9 @@ use Rattle.sg_defs.proofs.MembershipLemmas.{member-add, member-entry}
 use Rattle.sg_nonunique.specs.Walks.{IsWalk}
 use Rattle.sg_nonunique.proofs.PlaceLemmas.{inside as inside_of}
 use Rattle.sg_nonunique.proofs.WalkLemmas.{joined-end, joined-here, joined-step, joined-then}
-use Rattle.sg_finite.proofs.ElementLemmas.{contains-nil, here}
-use Rattle.sg_families.specs.PlaceGraph.{AreConnected, IsEdge, IsVertex}
-use Rattle.sg_families.proofs.PlaceClasses.{number-edge, number-vertex}
+use Rattle.sg_laws_finite.proofs.ElementLemmas.{contains-nil, here}
+use Rattle.sg_laws_families.specs.PlaceGraph.{AreConnected, IsEdge, IsVertex}
+use Rattle.sg_laws_families.proofs.PlaceClasses.{number-edge, number-vertex}
 use Rattle.sg_betti.specs.Links.{IsLink, IsParted}
 use Rattle.sg_betti.proofs.SetLemmas.{set-pushed}
 

@@ -4,7 +4,7 @@ use Rattle.std.specs.Prelude.{◌⊎◌, ◌↔◌, Contains}
 use Rattle.std.proofs.lemmas.Bool.{cases_lt}
 use Rattle.std.proofs.lemmas.List.{get_or_default}
 use Rattle.std.proofs.lemmas.List.Elements.{Contains-append_left, Contains-push, Contains-push_cases}
-use Rattle.sg_finite.proofs.ElementLemmas.{contains-nil}
+use Rattle.sg_laws_finite.proofs.ElementLemmas.{contains-nil}
 
 -- one of the first i entries is k
 abbrev pub IsAmongFirst : List ℕ → ℕ → ℕ → Type 0

@@ -2,7 +2,7 @@
 use Rattle.std.specs.Prelude.{ℕ, ◌<◌, ◌↔◌, List, length, slice_index, All, AllPairs, Contains}
 use Rattle.sg_defs.specs.Listings.{Lists}
 use Rattle.sg_nonunique.specs.Classes.{IsSameClass}
-use Rattle.sg_families.specs.PlaceGraph.{IsVertex, AreConnected}
+use Rattle.sg_laws_families.specs.PlaceGraph.{IsVertex, AreConnected}
 
 -- place i is in one of the rows
 abbrev pub IsInSomeRow : List (List ℕ) → ℕ → Type 0

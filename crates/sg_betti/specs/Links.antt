@@ -1,7 +1,7 @@
 -- The graph of the places of an element, and how a search parts it.
 use Rattle.std.specs.Prelude.{◌≡◌, ℕ, ◌+◌, ◌↔◌, ◌⊎◌, List, slice_index, Contains}
 use Rattle.sg_defs.specs.Membership.{IsFactorization, IsMember}
-use Rattle.sg_families.specs.PlaceGraph.{IsVertex, AreConnected}
+use Rattle.sg_laws_families.specs.PlaceGraph.{IsVertex, AreConnected}
 
 -- n without generators i and j is a member
 abbrev pub IsLink : List ℕ → ℕ → ℕ → ℕ → Type 0

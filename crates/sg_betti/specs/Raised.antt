@@ -4,7 +4,7 @@ use Rattle.sg_defs.specs.Membership.{IsFactorization}
 use Rattle.sg_defs.specs.Vectors.{IsLexBelow}
 use Rattle.sg_nonunique.specs.Classes.{IsSameClass}
 use Rattle.sg_nonunique.specs.Presentations.{IsCanonicalRelation, IsLexGreatest, Relation}
-use Rattle.sg_families.specs.PlaceGraph.{IsFirstPlace}
+use Rattle.sg_laws_families.specs.PlaceGraph.{IsFirstPlace}
 
 -- y is the greatest vector of the class of n that has this place for its first
 abbrev pub IsGreatestFrom : List ℕ → ℕ → ℕ → List ℕ → Type 0

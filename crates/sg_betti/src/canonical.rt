@@ -5,7 +5,7 @@ ghost use Rattle.sg_defs.specs.Membership.{IsFactorization, IsMember, IsNumerica
 ghost use Rattle.sg_nonunique.specs.Classes.{HasTwoClasses};
 ghost use Rattle.sg_nonunique.specs.Places.{raise};
 ghost use Rattle.sg_nonunique.specs.Presentations.{AreRelations, IsCanonical, IsLexGreatest, IsNoneSpare, Presents};
-ghost use Rattle.sg_families.specs.PlaceGraph.{IsVertex};
+ghost use Rattle.sg_laws_families.specs.PlaceGraph.{IsVertex};
 ghost use Rattle.sg_betti.specs.Components.{AreComponents};
 ghost use Rattle.sg_betti.specs.Raised.{AddsRelations, IsGreatestFrom, head_of};
 

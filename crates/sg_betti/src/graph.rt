@@ -3,7 +3,7 @@
 ghost use Rattle.std.specs.Prelude.{◌<◌, ◌↔◌, length, Contains, IsTrue, MatchBool, IfOk};
 ghost use Rattle.sg_defs.specs.Listings.{Lists};
 ghost use Rattle.sg_defs.specs.Membership.{IsFactorization};
-ghost use Rattle.sg_families.specs.PlaceGraph.{AreConnected, IsVertex};
+ghost use Rattle.sg_laws_families.specs.PlaceGraph.{AreConnected, IsVertex};
 ghost use Rattle.sg_betti.specs.Components.{AreClassRows, AreComponents, IsInSomeRow};
 
 use crate::search::{Search, is_vertex};

@@ -6,7 +6,7 @@
 //! classes, and `presentation` the canonical list of relations, which joins any two factorizations of every element and
 //! of which none can be left out. No class is listed for it.
 //!
-//! The laws are instances of the inductions of `sg_families`.
+//! The laws are instances of the inductions of `sg_laws_families`.
 #![tactic(auto)]
 
 mod canonical;

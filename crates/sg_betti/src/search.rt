@@ -2,7 +2,7 @@
 
 ghost use Rattle.std.specs.Prelude.{◌≡◌, ◌≢◌, ◌+◌, ◌<◌, ◌↔◌, ◌⊎◌, ℕ, [], ◌∷◌, length, Contains, IsTrue, OnOk};
 ghost use Rattle.sg_defs.specs.Membership.{IsFactorization};
-ghost use Rattle.sg_families.specs.PlaceGraph.{IsVertex};
+ghost use Rattle.sg_laws_families.specs.PlaceGraph.{IsVertex};
 ghost use Rattle.sg_betti.specs.Links.{IsLink, IsParted};
 
 use sg_apery::Table;

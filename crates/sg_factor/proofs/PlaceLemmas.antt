@@ -13,11 +13,11 @@ use Rattle.std.specs.Prelude.{slice_index_or}
 use Rattle.sg_defs.specs.Vectors.{IsLexBelow}
 use Rattle.sg_defs.specs.Membership.{IsFactorization, IsMember}
 use Rattle.sg_defs.proofs.ListLemmas.{contains-cases}
-use Rattle.sg_finite.specs.Listing.{levels, all_factorizations}
-use Rattle.sg_finite.proofs.ElementLemmas.{contains-nil, here, pairs-nil}
-use Rattle.sg_finite.proofs.LevelLemmas.{levels-zero, levels-more, length-level}
-use Rattle.sg_finite.proofs.FactorizationLemmas.{factorizations-listed, all-first}
-use Rattle.sg_finite.proofs.OneListLemmas.{one-descending}
+use Rattle.sg_laws_finite.specs.Listing.{levels, all_factorizations}
+use Rattle.sg_laws_finite.proofs.ElementLemmas.{contains-nil, here, pairs-nil}
+use Rattle.sg_laws_finite.proofs.LevelLemmas.{levels-zero, levels-more, length-level}
+use Rattle.sg_laws_finite.proofs.FactorizationLemmas.{factorizations-listed, all-first}
+use Rattle.sg_laws_finite.proofs.OneListLemmas.{one-descending}
 
 -- ---- what is listed at the last place, and where there is nothing
 

@@ -4,9 +4,9 @@ use Rattle.std.specs.Prelude.{All, IfOk}
 use Rattle.sg_defs.specs.Vectors.{ListsDescending}
 use Rattle.sg_defs.specs.Membership.{IsFactorization}
 use Rattle.sg_nonunique.specs.Counts.{Exceeds}
-use Rattle.sg_finite.specs.Listing.{all_factorizations}
-use Rattle.sg_finite.proofs.CountLemmas.{exceeds-from_listing, listing-from_exceeds, listing-from_descending}
-use Rattle.sg_finite.proofs.FactorizationLemmas.{factorizations-listed}
+use Rattle.sg_laws_finite.specs.Listing.{all_factorizations}
+use Rattle.sg_laws_finite.proofs.CountLemmas.{exceeds-from_listing, listing-from_exceeds, listing-from_descending}
+use Rattle.sg_laws_finite.proofs.FactorizationLemmas.{factorizations-listed}
 use Rattle.sg_factor.specs.Faults.{IsRefused}
 use Rattle.sg_factor.specs.declared.fault.FactorFault.{FactorFault}
 use Rattle.sg_factor.specs.declared.fault.FactorFault.TheVariants.{TooMany, Memory}

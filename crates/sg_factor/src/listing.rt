@@ -1,7 +1,7 @@
 //! All factorizations by given generators, in descending order: place by place, with the number at each place going down.
 
 ghost use Rattle.std.specs.Prelude.{◌≡◌, ◌+◌, ◌-◌, ◌<◌, ◌≤◌, ◌^◌, ◌∷◌, ◌++◌, [], length, map, take, All, IfOk, OnOk, IfErr};
-ghost use Rattle.sg_finite.specs.Listing.{all_factorizations};
+ghost use Rattle.sg_laws_finite.specs.Listing.{all_factorizations};
 ghost use Rattle.sg_factor.specs.Bounds.{AreBounds};
 ghost use Rattle.sg_factor.specs.Faults.{IsRefused};
 

@@ -1,7 +1,7 @@
 use Rattle.std.proofs.Common.{◌≡◌, ◌+◌, ◌-◌, ◌<◌, ℕ, length, refl, sym, subst, arith}
 use Rattle.sg_defs.specs.Membership.{IsFactorization}
 use Rattle.sg_nonunique.specs.Presentations.{Relation}
-use Rattle.sg_families.specs.PlaceGraph.{IsVertex}
+use Rattle.sg_laws_families.specs.PlaceGraph.{IsVertex}
 use Rattle.sg_betti.specs.Raised.{IsGreatestFrom, head_of}
 use Rattle.sg_betti.proofs.ElementLemmas.{betti-positive}
 use Rattle.sg_betti.proofs.RelationLemmas.{AddsRows, head-vertex, rows-all, rows-none, rows-pushed, some-row}

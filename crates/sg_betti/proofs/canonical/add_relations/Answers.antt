@@ -1,6 +1,6 @@
 use Rattle.std.proofs.Common.{sym, subst}
 use Rattle.sg_defs.specs.Membership.{IsFactorization}
-use Rattle.sg_families.specs.PlaceGraph.{IsVertex}
+use Rattle.sg_laws_families.specs.PlaceGraph.{IsVertex}
 use Rattle.sg_betti.specs.Components.{AreComponents}
 use Rattle.sg_betti.specs.Raised.{IsGreatestFrom}
 use Rattle.sg_betti.proofs.ElementLemmas.{betti-positive}

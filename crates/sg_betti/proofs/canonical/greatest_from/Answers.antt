@@ -2,7 +2,7 @@ use Rattle.std.proofs.Common.{◌≡◌, ◌+◌, ◌-◌, get_or, ap, sym, subs
 use Rattle.std.proofs.lemmas.Result.{IfOk-weaker}
 use Rattle.sg_defs.specs.Membership.{IsMember}
 use Rattle.sg_nonunique.specs.Places.{raise}
-use Rattle.sg_families.proofs.PlaceClasses.{number-vertex}
+use Rattle.sg_laws_families.proofs.PlaceClasses.{number-vertex}
 use Rattle.sg_betti.specs.Raised.{IsGreatestFrom}
 use Rattle.sg_betti.proofs.RelationLemmas.{greatest_from-raised, place-below_value}
 use Rattle.sg_betti.proofs.SearchLemmas.{vertex-inside}

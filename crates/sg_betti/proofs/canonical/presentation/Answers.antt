@@ -4,8 +4,8 @@ use Rattle.std.proofs.lemmas.List.Elements.{Contains-get_or}
 use Rattle.sg_defs.specs.Listings.{Lists}
 use Rattle.sg_defs.specs.Membership.{IsFactorization}
 use Rattle.sg_nonunique.specs.Classes.{HasTwoClasses}
-use Rattle.sg_families.proofs.CanonicalLemmas.{canonical-none_spare, canonical-presents, canonical-relations}
-use Rattle.sg_families.proofs.Families.{numbers-family}
+use Rattle.sg_laws_families.proofs.CanonicalLemmas.{canonical-none_spare, canonical-presents, canonical-relations}
+use Rattle.sg_laws_families.proofs.Families.{numbers-family}
 use Rattle.sg_betti.proofs.PresentationLemmas.{ArePresented, presented-all, presented-more, presented-none}
 use Rattle.sg_betti.proofs.canonical.presentation.Goals as goal
 

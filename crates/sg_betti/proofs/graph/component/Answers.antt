@@ -2,7 +2,7 @@ use Rattle.std.proofs.Common.{◌≡◌, ◌∙◌, ℕ, sym, subst}
 use Rattle.std.proofs.lemmas.Result.{IfOk-weaker}
 use Rattle.sg_defs.specs.Listings.{Lists}
 use Rattle.sg_defs.specs.Membership.{IsFactorization}
-use Rattle.sg_families.specs.PlaceGraph.{AreConnected}
+use Rattle.sg_laws_families.specs.PlaceGraph.{AreConnected}
 use Rattle.sg_betti.proofs.SortLemmas.{lists-sorted}
 use Rattle.sg_betti.proofs.graph.component.Goals as goal
 

@@ -2,7 +2,7 @@ use Rattle.std.proofs.Common.{◌≡◌, Bool, true, false, sym, ◌∙◌}
 use Rattle.std.specs.Prelude.{MatchBool}
 use Rattle.std.proofs.lemmas.Bool.{false≢true}
 use Rattle.sg_defs.specs.Membership.{IsFactorization}
-use Rattle.sg_families.specs.PlaceGraph.{IsVertex}
+use Rattle.sg_laws_families.specs.PlaceGraph.{IsVertex}
 use Rattle.sg_betti.specs.Components.{IsInSomeRow}
 use Rattle.sg_betti.proofs.graph.is_new.Goals as goal
 

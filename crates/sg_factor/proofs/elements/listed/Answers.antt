@@ -3,7 +3,7 @@ use Rattle.std.proofs.lemmas.Result.{IfOk-weaker, IfErr-weaker}
 use Rattle.sg_defs.specs.Vectors.{ListsDescending}
 use Rattle.sg_defs.specs.Membership.{IsFactorization}
 use Rattle.sg_nonunique.specs.Counts.{Exceeds}
-use Rattle.sg_finite.specs.Listing.{all_factorizations}
+use Rattle.sg_laws_finite.specs.Listing.{all_factorizations}
 use Rattle.sg_factor.specs.Faults.{IsRefused}
 use Rattle.sg_factor.proofs.RefusalLemmas.{refused-weaker, both-ok, listed-whole, listed-few, listed-many}
 use Rattle.sg_factor.proofs.elements.listed.Goals as goal

@@ -3,7 +3,7 @@ use Rattle.std.specs.Prelude.{All}
 use Rattle.std.proofs.lemmas.List.{length-set, length-drop}
 use Rattle.std.proofs.lemmas.Result.{err_from_is_err_and}
 use Rattle.sg_classes.specs.Classes.{IsAboveEntry}
-use Rattle.sg_finite.specs.Listing.{all_factorizations}
+use Rattle.sg_laws_finite.specs.Listing.{all_factorizations}
 use Rattle.sg_factor.specs.Bounds.{AreBounds}
 use Rattle.sg_factor.proofs.NoteLemmas.{read-row}
 use Rattle.sg_factor.proofs.PlaceLemmas.{all-below_bound, listed-nothing, others, others-positive, others-bounded, levels-init, level-listed, begins-kept, levels-end, levels-too_many}

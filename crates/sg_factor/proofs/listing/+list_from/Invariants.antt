@@ -1,5 +1,5 @@
 use Rattle.std.proofs.Common.{◌≡◌, ◌≤◌, ◌-◌, ◌*◌, ◌++◌, length, get_or, drop, take, map}
-use Rattle.sg_finite.specs.Listing.{all_factorizations, levels}
+use Rattle.sg_laws_finite.specs.Listing.{all_factorizations, levels}
 use Rattle.sg_factor.proofs.listing.+list_from.Given as goal
 
 abbrev pub decreases-list_from : goal.decreases-list_from

@@ -1,5 +1,5 @@
 use Rattle.std.proofs.Common.{◌-◌, length, arith}
-use Rattle.sg_finite.specs.Listing.{all_factorizations}
+use Rattle.sg_laws_finite.specs.Listing.{all_factorizations}
 use Rattle.sg_factor.proofs.PlaceLemmas.{listed-alone}
 use Rattle.sg_factor.proofs.listing.list_all.Goals as goal
 

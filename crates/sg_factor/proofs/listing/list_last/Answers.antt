@@ -1,6 +1,6 @@
 use Rattle.std.proofs.Common.{◌≡◌, true, false, refl, ◌+◌, ◌-◌, ◌<◌, ◌∷◌, [], length, take, ap, arith}
 use Rattle.std.proofs.lemmas.Result.{on_ok_weaker, IfErr-weaker}
-use Rattle.sg_finite.specs.Listing.{all_factorizations}
+use Rattle.sg_laws_finite.specs.Listing.{all_factorizations}
 use Rattle.sg_factor.specs.Faults.{IsRefused}
 use Rattle.sg_factor.proofs.PlaceLemmas.{all-last_none, all-last_some, listed-nothing, listed-last}
 use Rattle.sg_factor.proofs.RefusalLemmas.{refused-weaker}
