@@ -2,7 +2,8 @@
 use Rattle.std.proofs.Common.{◌≡◌, ℕ, ◌+◌, ◌↔◌, List, get_or, sym, subst, inl, inr, arith}
 use Rattle.std.specs.Prelude.{Contains}
 use Rattle.std.specs.List.Sorted.{IsStrictlyIncreasing}
-use Rattle.sg_classes.proofs.EntryLemmas.{too_large-iff, first-least}
+use Rattle.sg_defs.proofs.MinimalLemmas.{first-least}
+use Rattle.sg_classes.proofs.EntryLemmas.{too_large-iff}
 use Rattle.sg_classes.proofs.GeneratorLemmas.{contains-place, place-contains}
 use Rattle.sg_small.specs.Sets.{IsClosedSet, IsInSmall, IsNotClosed}
 use Rattle.sg_small.specs.Small.{AreSmallElements}

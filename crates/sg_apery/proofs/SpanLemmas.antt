@@ -14,7 +14,7 @@ use Rattle.sg_classes.specs.Fit.{IsSpan}
 use Rattle.sg_classes.specs.Table.{IsTable, IsMinimalTable}
 
 -- the difference of two naturals is a natural or below 0
-minus_cases : (g m : ℕ) → ((y : ℕ) × (y + m ≡ g) × (pos g -ℤ pos m ≡ pos y)) ⊎ ((y : ℕ) × (g + suc y ≡ m) × (pos g -ℤ pos m ≡ negsuc y))
+pub minus_cases : (g m : ℕ) → ((y : ℕ) × (y + m ≡ g) × (pos g -ℤ pos m ≡ pos y)) ⊎ ((y : ℕ) × (g + suc y ≡ m) × (pos g -ℤ pos m ≡ negsuc y))
 minus_cases g m = elim (cases_lt g m) [
   | inl less ↦ inr (m - suc g, omega arith, omega (arith, ints))
   | inr more ↦ inl (g - m, omega arith, omega (arith, ints))

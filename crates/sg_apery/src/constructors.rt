@@ -10,7 +10,7 @@ use crate::fault::TableFault;
 use crate::table::Table;
 use sg_classes::{MULTIPLICITY_LIMIT, are_small, is_numerical_semigroup, sort_distinct};
 use sg_nat::Nats;
-use sg_tables::{apery_list, minimal_part};
+use sg_tables::{apery_list, apery_list_of_minimal};
 use std::alloc::{AllocError, Global};
 
 /// The table of ascending generators.
@@ -30,8 +30,8 @@ fn from_distinct(alloc: Global, entries: &[u64]) -> Result<Table, TableFault>
     if multiplicity > MULTIPLICITY_LIMIT {
         return Err(TableFault::TooLarge);
     }
-    let apery = apery_list(alloc, entries, multiplicity)?;
-    let generators = minimal_part(alloc, &apery, entries)?;
+    let mut generators = Nats::new(alloc);
+    let apery = apery_list(alloc, entries, &mut generators)?;
     Ok(Table::from_parts(generators, apery))
 }
 
@@ -53,15 +53,14 @@ impl Table {
     }
 
     /// The numerical semigroup with these minimal generators, in `e*m` steps for `e` generators and the multiplicity
-    /// `m`, but for generators that lower no entry, which cost one step each.
+    /// `m`, but where there are many, for generators that lower no entry: these cost one step each.
     pub fn of_minimal(alloc: Global, gens: &Nats) -> Result<Table, AllocError>
         requires semigroup { IsNumericalSemigroup gens.now }
         requires minimal { IsMinimal gens.now }
         requires fit { IsFit gens.now }
         ensures { IfOk result (λ table. table ≡ gens.now) }
     {
-        let multiplicity = gens.as_slice()[0];
-        let apery = apery_list(alloc, gens.as_slice(), multiplicity)?;
+        let apery = apery_list_of_minimal(alloc, gens.as_slice())?;
         let generators = gens.try_clone()?;
         Ok(Table::from_parts(generators, apery))
     }

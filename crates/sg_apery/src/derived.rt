@@ -13,7 +13,6 @@ use crate::kunz::from_kunz;
 use crate::table::Table;
 use sg_classes::{APERY_ENTRY_LIMIT, APERY_MODULUS_LIMIT, MULTIPLICITY_LIMIT, is_above_entry};
 use sg_nat::Nats;
-use sg_tables::apery_list;
 use std::alloc::{AllocError, Global};
 
 impl Table {
@@ -26,7 +25,7 @@ impl Table {
         ensures apery { IfOk result (λ list. IsApery self.now n list) }
         ensures small { IfOk result (λ list. EachIndex list (λ i. slice_index list i ≤ APERY_ENTRY_LIMIT)) }
     {
-        let list = apery_list(alloc, self.generators().as_slice(), n)?;
+        let list = self.list_modulo(alloc, n)?;
         Nats::from_slice(alloc, &list)
     }
 }
@@ -68,8 +67,8 @@ fn common_list(alloc: Global, a: &Table, b: &Table, modulus: u64) -> Result<Vec<
     ensures kunz { IfOk result (λ list. IsKunz list.items) }
     ensures same { IfOk result (λ list. (n : ℕ) → IsInBoth a.now b.now n ↔ IsAboveEntry list.items n) }
 {
-    let first = apery_list(alloc, a.generators().as_slice(), modulus)?;
-    let second = apery_list(alloc, b.generators().as_slice(), modulus)?;
+    let first = a.list_modulo(alloc, modulus)?;
+    let second = b.list_modulo(alloc, modulus)?;
     greater_entries(alloc, &first, &second)
 }
 

@@ -1,15 +1,17 @@
 //! The table of a numerical semigroup, and what it answers.
 
-ghost use Rattle.std.specs.Prelude.{◌≡◌, ◌<◌, ◌≤◌, length, EachIndex, slice_index, IsTrue, ◌↔◌};
+ghost use Rattle.std.specs.Prelude.{◌≡◌, ◌<◌, ◌≤◌, length, vec_len, EachIndex, slice_index, IfOk, IsTrue, ◌↔◌};
 ghost use Rattle.sg_defs.specs.Apery.{IsApery, IsAperyEntry};
 ghost use Rattle.sg_defs.specs.Membership.{IsNumericalSemigroup, IsIntegerMember, IsMember, IsMinimal};
 ghost use Rattle.sg_classes.specs.Fit.{IsFit, IsNarrow, IsSpan};
-ghost use Rattle.sg_classes.specs.Table.{IsMinimalTable};
+ghost use Rattle.sg_classes.specs.Table.{IsMinimalTable, IsTable};
 
 use sg_classes::{
     APERY_ENTRY_LIMIT, MULTIPLICITY_LIMIT, NARROW_GENERATORS, NARROW_PRODUCT, greatest,
 };
 use sg_nat::Nats;
+use sg_tables::list_modulo;
+use std::alloc::{AllocError, Global};
 use std::marker::Model;
 
 /// The minimal generators of a numerical semigroup, and its Apery list modulo the multiplicity: the least member in
@@ -86,6 +88,17 @@ impl Table {
         ensures small { EachIndex result.now (λ i. slice_index result.now i ≤ APERY_ENTRY_LIMIT) }
     {
         self.apery.as_slice()
+    }
+
+    /// The least member in each residue class modulo a member.
+    pub(crate) fn list_modulo(&self, alloc: Global, modulus: u64) -> Result<Vec<u64>, AllocError>
+        requires positive { 0 < modulus }
+        requires short { modulus ≤ MULTIPLICITY_LIMIT }
+        requires modulus { IsMember self.now modulus }
+        ensures table { IfOk result (λ t. IsTable self.now t.items) }
+        ensures length { IfOk result (λ t. vec_len t ≡ modulus) }
+    {
+        list_modulo(alloc, &self.apery, modulus)
     }
 
     /// The least member congruent to `i` modulo the multiplicity. It takes no memory.

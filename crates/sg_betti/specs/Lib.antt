@@ -1,0 +1,5 @@
+pub mod Links
+pub mod Components
+pub mod Limits
+pub mod Raised
+pub mod Sums

@@ -1,8 +1,7 @@
-pub mod OneOrTwo
 pub mod Remainders
+pub mod Asking
+pub mod Fitting
+pub mod Naming
+pub mod MadeValues
 pub mod OneReply
 pub mod SomeReply
-pub mod OneFact
-pub mod SomeFact
-pub mod Kept
-pub mod SeveralKinds

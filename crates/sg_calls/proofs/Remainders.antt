@@ -4,7 +4,7 @@ use Rattle.std.specs.Prelude.{◌-ℤ◌, unsigned_abs}
 use Rattle.std.specs.Int.{int_rem_euclid}
 use native.Mathlib.Decide.{dec_le}
 use Rattle.std.proofs.lemmas.Int.{ints}
-use Rattle.sg_calls.specs.Words.{IsRemainder}
+use Rattle.sg_calls.specs.Remainders.{IsRemainder}
 
 positive : (y : ℤ) → (y ≡ pos 0 → ⊥) → 0 < unsigned_abs y
 positive (pos zero) h = absurd (h refl)

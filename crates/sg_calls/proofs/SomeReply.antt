@@ -1,54 +1,53 @@
--- Commands and operators have a reply over lawful arguments: each condition of a row is decided, and its value exists.
+-- Commands and operators have a reply, over what is lawful.
 use Rattle.std.proofs.Common.{◌≡◌, ℕ, ℤ, pos, List, Option, Some, None, Err, refl}
-use Rattle.sg_value.specs.Plain.{Things}
-use Rattle.std.specs.Prelude.{◌+ℤ◌, ◌-ℤ◌, ◌*ℤ◌, ◌<ℤ◌, ◌≤ℤ◌, ⊤}
+use Rattle.std.specs.Prelude.{◌+ℤ◌, ◌-ℤ◌, ◌*ℤ◌, ◌≤ℤ◌, ◌<ℤ◌, ⊤}
 use Rattle.std.specs.Int.{int_rem_euclid}
-use Rattle.sg_exist.proofs.Decisions.{decided-not, decided-lt_z, decided-le_z, decided-eq_z}
-use Rattle.sg_exist.proofs.InvariantsExist.{integer_member-decided}
+use Rattle.sg_value.specs.Plain.{Things}
 use Rattle.sg_defs.specs.Membership.{IsIntegerMember}
-use Rattle.sg_value.specs.Data.{int, Items, none, item}
-use Rattle.sg_rows.specs.Order.{Plain, Case, fits, IsReply}
-use Rattle.sg_rows.specs.Kinds.{given, sole, as_list, as_integer, as_semigroup, spread, answers, an_integer, whether}
-use Rattle.sg_rows.specs.Words.{IsEntry, entry_count}
+use Rattle.sg_laws_invariants.proofs.Decisions.{decided-eq_z, decided-le_z, decided-lt_z, decided-not}
+use Rattle.sg_laws_invariants.proofs.InvariantsExist.{integer_member-decided}
+use Rattle.sg_value.specs.Data.{int, Items}
+use Rattle.sg_rows.specs.Order.{Plain, IsReply}
+use Rattle.sg_rows.specs.Entries.{IsEntry, entry_count}
+use Rattle.sg_rows.specs.Forms.{on_integer_and_semigroup, on_integer_and_ideal, on_list_and_semigroup, on_two_ideals}
+use Rattle.sg_rows.specs.Kinds.{fitted, as_list, as_integer, two_integers}
 use Rattle.sg_rows.specs.Lawful.{IsLawful, AreLawful, SomeReply}
+use Rattle.sg_rows.specs.Values.{answers, an_integer, whether}
 use Rattle.sg_rows.specs.declared.fault.Fault.{Fault}
-use Rattle.sg_rows.proofs.EqualData.{data-decided, entry-decided}
-use Rattle.sg_rows.proofs.SomeValue.{SomeValue, reply_some, given_some, answers_some, bad_some, integer_some, whether_some, is_some_value, any_some, sole_lawful}
-use Rattle.sg_rows.proofs.SomeListed.{two_some, three_some}
-use Rattle.sg_lists.specs.Lists.{gcd_of, lcm_of}
-use Rattle.sg_lists.proofs.SomeEntry.{gcd_some, lcm_some, concatenation_some}
-use Rattle.sg_makers.specs.Makers.{semigroup_of}
-use Rattle.sg_makers.specs.Derived.{quotient_of}
-use Rattle.sg_makers.proofs.SomeSemigroup.{semigroup_some, quotient_some, modular_some, proportional_some}
-use Rattle.sg_makers.specs.Modular.{modular_of, proportional_of}
-use Rattle.sg_facts.specs.Lists.{apery_list_of}
-use Rattle.sg_facts.specs.Modulo.{apery_list_modulo_of}
-use Rattle.sg_facts.proofs.SomeList.{apery_list_some}
-use Rattle.sg_facts.proofs.SomeModulo.{apery_list_modulo_some}
-use Rattle.sg_calls.specs.Shapes.{one_or_two}
-use Rattle.sg_calls.specs.SemigroupFacts as semigroup
-use Rattle.sg_calls.specs.ListFacts as facts
-use Rattle.sg_calls.specs.IdealFacts as ideal
-use Rattle.sg_calls.specs.IdealFacts.{both_of}
 use Rattle.sg_rows.proofs.Alternating.{or_else_some}
-use Rattle.sg_relative.specs.Generated.{ideal_of_list}
-use Rattle.sg_relative.specs.Operators.{plus_of, less_of, times_of}
-use Rattle.sg_relative.proofs.SomeIdeal.{ideal_member_some, ideal_of_list_some, plus_some, less_some, times_some}
-use Rattle.sg_calls.specs.ShapeFacts as shape
-use Rattle.sg_calls.specs.ListMakers as maker
-use Rattle.sg_calls.proofs.SomeFact.{ideal_fact_some, both_some, semigroup_fact_some, shape_fact_some, list_fact_some, list_maker_some}
-use Rattle.sg_calls.specs.Words.{IsRemainder}
+use Rattle.sg_rows.proofs.EqualData.{data-decided, entry-decided}
+use Rattle.sg_rows.proofs.FormLaws.{on_integer_and_semigroup_some}
+use Rattle.sg_rows.proofs.KindLemmas.{any_some}
+use Rattle.sg_rows.proofs.SomeValue.{SomeValue, answers_some, bad_some, given_some, fitted_some, integer_some, is_some_value, reply_some, whether_some}
+use Rattle.sg_rows_lists.proofs.SomeList.{list_some}
+use Rattle.sg_rows_constructors.specs.Makers as makers
+use Rattle.sg_rows_constructors.specs.declared.maker.Maker.TheVariants as maker
+use Rattle.sg_rows_constructors.proofs.SomeMaker.{maker_some}
+use Rattle.sg_rows_invariants.specs.Facts as facts
+use Rattle.sg_rows_invariants.specs.declared.fact.Fact.TheVariants as fact
+use Rattle.sg_rows_invariants.specs.declared.fact.GeneratorsFact.TheVariants as generators
+use Rattle.sg_rows_invariants.proofs.SomeFact.{fact_some}
+use Rattle.sg_rows_symmetry.proofs.SomeShape.{shape_some}
+use Rattle.sg_rows_ideals.specs.Ideals as ideals
+use Rattle.sg_rows_ideals.specs.Rows.{generated_row, member_row, multiple_row, pair_row, translate_row}
+use Rattle.sg_rows_ideals.specs.declared.facts.IdealFact.TheVariants.{Generators}
+use Rattle.sg_rows_ideals.specs.declared.ideals.IdealCommand.TheVariants.{OfIdeal, OfTwoIdeals}
+use Rattle.sg_rows_ideals.specs.declared.pairs.Pair.TheVariants.{Difference, Sum}
+use Rattle.sg_rows_ideals.specs.declared.pairs.Pair.TheVariants as pair
+use Rattle.sg_rows_ideals.proofs.SomeIdeal.{ideal_some, pair_some, generated_some, multiple_some, translate_some, member_some}
+use Rattle.sg_calls.specs.Remainders.{IsRemainder}
+use Rattle.sg_calls.proofs.Remainders.{remainder_is}
 use Rattle.sg_calls.specs.Rows.{row}
-use Rattle.sg_calls.specs.Operations.{operation, membership, calculation, of_integers, negation}
+use Rattle.sg_calls.specs.Operations.{operation, membership, moved_or_generated, calculation, of_integers, negation}
 use Rattle.sg_calls.specs.Commands.{checked, command_named}
 use Rattle.sg_calls.specs.Answers.{Answer, case_of, reply_unless}
 use Rattle.sg_calls.specs.declared.command.Command.{Command}
-use Rattle.sg_calls.specs.declared.command.Command.TheVariants.{OfIdeal, IdealOfNumericalSemigroup, OfSemigroup, OfShape, OfList, FromList, Concatenation, Gcd, Intersection, Lcm, NumericalSemigroup, QuotientOfNumericalSemigroup, AperyList, ModularNumericalSemigroup, ProportionallyModularNumericalSemigroup}
+use Rattle.sg_calls.specs.declared.command.Command.TheVariants.{Lists, Makers, Facts, Shapes, Ideals, Shared}
+use Rattle.sg_calls.specs.declared.command.Shared.TheVariants.{Intersection, MinimalGenerators}
 use Rattle.sg_calls.specs.declared.operator.Operator.{Operator}
 use Rattle.sg_calls.specs.declared.operator.Operator.TheVariants.{Plus, Less, Times, Mod, Eq, Ne, Lt, Le, Gt, Ge, Member}
-use Rattle.sg_calls.proofs.Remainders.{remainder_is}
 
--- ---- the operators
+-- ---- operators
 
 calculation_some : (op : Operator) (x y : ℤ) → SomeValue (calculation op x y)
 calculation_some Plus x y = answers_some _ (is_some_value (int (x +ℤ y)) tt)
@@ -59,65 +58,58 @@ calculation_some Lt x y = answers_some _ (whether_some (x <ℤ y) (decided-lt_z 
 calculation_some Le x y = answers_some _ (whether_some (x ≤ℤ y) (decided-le_z x y))
 calculation_some Gt x y = answers_some _ (whether_some (y <ℤ x) (decided-lt_z y x))
 calculation_some Ge x y = answers_some _ (whether_some (y ≤ℤ x) (decided-le_z y x))
-calculation_some Eq x y = tt
-calculation_some Ne x y = tt
-calculation_some Member x y = tt
+calculation_some _ x y = tt
 
 of_integers_some : (op : Operator) (a b : Plain) → SomeValue (of_integers op a b)
-of_integers_some op a b = given_some (λ x. ⊤) (as_integer a) (λ x. given (as_integer b) (λ y. calculation op x y)) (any_some (as_integer a))
-    (λ x l. given_some (λ y. ⊤) (as_integer b) (λ y. calculation op x y) (any_some (as_integer b)) (λ y m. calculation_some op x y))
+of_integers_some op a b = given_some (λ p. ⊤) (two_integers a b) (λ p. calculation op p.0 p.1) (any_some (two_integers a b)) (λ p l. calculation_some op p.0 p.1)
 
-membership_some : (a b : Plain) (o : Option (Items Things)) (s : Option (List ℕ)) → IsLawful b → SomeValue (membership a b o s)
-membership_some a b (Some ds) s l = answers_some _ (whether_some (IsEntry a ds) (entry-decided a ds))
-membership_some a b None (Some G) l = given_some (λ x. ⊤) (as_integer a) (λ x. fits (answers (whether (IsIntegerMember G x)))) (any_some (as_integer a))
-    (λ x m. answers_some _ (whether_some (IsIntegerMember G x) (integer_member-decided G x)))
-membership_some a b None None l = ideal_member_some a b l
+membership_some : (a b : Plain) → IsLawful b → SomeValue (membership a b)
+membership_some a b l =
+    let of_semigroup = on_integer_and_semigroup a b (λ x G. answers (whether (IsIntegerMember G x))) in
+    or_else_some (fitted (as_list b) (λ ds. answers (whether (IsEntry a ds)))) _
+    (fitted_some (λ ds. ⊤) (as_list b) (λ ds. answers (whether (IsEntry a ds))) (any_some (as_list b)) (λ ds u. answers_some _ (whether_some (IsEntry a ds) (entry-decided a ds))))
+    (or_else_some of_semigroup (on_integer_and_ideal a b member_row)
+    (on_integer_and_semigroup_some (λ x G. answers (whether (IsIntegerMember G x))) (λ x G g. answers_some _ (whether_some (IsIntegerMember G x) (integer_member-decided G x))) a b l)
+    (member_some a b l))
+
+moved_some : (a b : Plain) → IsLawful b → SomeValue (moved_or_generated a b)
+moved_some a b l = or_else_some (on_integer_and_ideal a b translate_row) (on_list_and_semigroup a b generated_row) (translate_some a b l) (generated_some a b l)
 
 operation_some : (op : Operator) (a b : Plain) → IsLawful a → IsLawful b → SomeValue (operation op a b)
 operation_some Eq a b l m = answers_some _ (whether_some (a ≡ b) (data-decided a b))
 operation_some Ne a b l m = answers_some _ (whether_some (a ≡ b → ⊥) (decided-not (a ≡ b) (data-decided a b)))
-operation_some Member a b l m = membership_some a b (as_list b) (as_semigroup b) m
-operation_some Plus a b l m = or_else_some (of_integers Plus a b) (plus_of a b) (of_integers_some Plus a b) (plus_some a b l m)
-operation_some Less a b l m = or_else_some (of_integers Less a b) (less_of a b) (of_integers_some Less a b) (less_some a b l m)
-operation_some Times a b l m = or_else_some (of_integers Times a b) (times_of a b) (of_integers_some Times a b) (times_some a b l m)
+operation_some Member a b l m = membership_some a b m
+operation_some Plus a b l m = or_else_some (of_integers Plus a b) _ (of_integers_some Plus a b) (or_else_some (on_two_ideals a b (pair_row Sum)) (moved_or_generated a b) (pair_some Sum a b l m) (moved_some a b m))
+operation_some Less a b l m = or_else_some (of_integers Less a b) (on_two_ideals a b (pair_row Difference)) (of_integers_some Less a b) (pair_some Difference a b l m)
+operation_some Times a b l m = or_else_some (of_integers Times a b) (on_integer_and_ideal a b multiple_row) (of_integers_some Times a b) (multiple_some a b m)
 operation_some Mod a b l m = of_integers_some Mod a b
 operation_some Lt a b l m = of_integers_some Lt a b
 operation_some Le a b l m = of_integers_some Le a b
 operation_some Gt a b l m = of_integers_some Gt a b
 operation_some Ge a b l m = of_integers_some Ge a b
 
+-- an operator has a reply
 pub operators_some : (op : Operator) (a b : Plain) → IsLawful a → IsLawful b → SomeReply (IsReply (operation op a b))
 operators_some op a b l m = reply_some (operation op a b) (operation_some op a b l m)
 
+-- the minus sign has one
 pub sign_some : (a : Plain) → SomeReply (IsReply (negation a))
-sign_some a = reply_some (negation a)
-    (given_some (λ x. ⊤) (as_integer a) (λ x. fits (answers (λ d. d ≡ int (pos 0 -ℤ x)))) (any_some (as_integer a)) (λ x l. answers_some _ (is_some_value (int (pos 0 -ℤ x)) tt)))
+sign_some a = reply_some (negation a) (fitted_some (λ x. ⊤) (as_integer a) _ (any_some (as_integer a)) (λ x l. answers_some _ (is_some_value (int (pos 0 -ℤ x)) tt)))
 
--- ---- the commands
+-- ---- commands
 
-one_or_two_some : (ds : Items Things) (f : Plain → Case) (g : Plain → Plain → Case) → AreLawful ds → ((a : Plain) → IsLawful a → SomeValue (f a)) →
-    ((a b : Plain) → IsLawful a → IsLawful b → SomeValue (g a b)) → SomeValue (one_or_two ds f g)
-one_or_two_some none f g l h k = tt
-one_or_two_some (item a none) f g l h k = h a l.0
-one_or_two_some (item a (item b none)) f g l h k = k a b l.0 l.1.0
-one_or_two_some (item a (item b (item c ds))) f g l h k = tt
-
-row_some : (c : Command) (args : Items Things) → AreLawful args → SomeValue (row c args)
-row_some (OfSemigroup f) args h = given_some IsLawful (sole args) (semigroup.fact_of f) (sole_lawful args h) (semigroup_fact_some f)
-row_some (OfShape f) args h = given_some IsLawful (sole args) (shape.fact_of f) (sole_lawful args h) (shape_fact_some f)
-row_some (OfIdeal f) args h = given_some IsLawful (sole args) (ideal.fact_of f) (sole_lawful args h) (ideal_fact_some f)
-row_some (OfList f) args h = given_some IsLawful (sole args) (facts.fact_of f) (sole_lawful args h) (λ a l. list_fact_some f a)
-row_some (FromList m) args h = given_some IsLawful (sole args) (maker.made_by m) (sole_lawful args h) (λ a l. list_maker_some m a)
-row_some Concatenation args h = concatenation_some args h
-row_some Gcd args h = given_some (λ zs. ⊤) (spread args) gcd_of (any_some (spread args)) (λ zs l. gcd_some zs)
-row_some IdealOfNumericalSemigroup args h = two_some args ideal_of_list h (λ a b l m. ideal_of_list_some a b m)
-row_some Intersection args h = two_some args both_of h both_some
-row_some Lcm args h = given_some (λ zs. ⊤) (spread args) lcm_of (any_some (spread args)) (λ zs l. lcm_some zs)
-row_some NumericalSemigroup args h = given_some (λ zs. ⊤) (spread args) semigroup_of (any_some (spread args)) (λ zs l. semigroup_some zs)
-row_some QuotientOfNumericalSemigroup args h = two_some args quotient_of h quotient_some
-row_some AperyList args h = one_or_two_some args apery_list_of apery_list_modulo_of h apery_list_some apery_list_modulo_some
-row_some ModularNumericalSemigroup args h = two_some args modular_of h (λ a b l m. modular_some a b)
-row_some ProportionallyModularNumericalSemigroup args h = three_some args proportional_of h (λ a b c l m n. proportional_some a b c)
+-- the row of a command has a value
+pub row_some : (c : Command) (args : Items Things) → AreLawful args → SomeValue (row c args)
+row_some (Lists c) args l = list_some c args l
+row_some (Makers c) args l = maker_some c args l
+row_some (Facts c) args l = fact_some c args l
+row_some (Shapes c) args l = shape_some c args l
+row_some (Ideals c) args l = ideal_some c args l
+row_some (Shared Intersection) args l =
+    or_else_some (makers.case_of maker.Intersection args) (ideals.case_of (OfTwoIdeals pair.Intersection) args) (maker_some maker.Intersection args l) (ideal_some (OfTwoIdeals pair.Intersection) args l)
+row_some (Shared MinimalGenerators) args l =
+    let of_semigroup = fact.OfGenerators generators.MinimalGenerators in
+    or_else_some (facts.case_of of_semigroup args) (ideals.case_of (OfIdeal Generators) args) (fact_some of_semigroup args l) (ideal_some (OfIdeal Generators) args l)
 
 case_some : (c : Option Command) (args : Items Things) → AreLawful args → SomeValue (case_of c args)
 case_some None args h = tt
@@ -127,5 +119,6 @@ unless_some : (o : Option Fault) (args : Items Things) (c : Option Command) → 
 unless_some (Some e) args c h = (Err e, refl, tt)
 unless_some None args c h = reply_some (case_of c args) (case_some c args h)
 
+-- a command has a reply
 pub commands_some : (name : List ℕ) (args : Items Things) → AreLawful args → SomeReply (Answer name args)
 commands_some name args h = unless_some (checked name (entry_count args)) args (command_named name) h

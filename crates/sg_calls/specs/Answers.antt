@@ -5,7 +5,7 @@ use Rattle.sg_value.specs.Plain.{Things}
 use Rattle.sg_rows.specs.Order.{Reply, Case, unfit, IsReply}
 use Rattle.sg_calls.specs.Commands.{checked, command_named}
 use Rattle.sg_calls.specs.Rows.{row}
-use Rattle.sg_rows.specs.Words.{entry_count}
+use Rattle.sg_rows.specs.Entries.{entry_count}
 use Rattle.sg_calls.specs.declared.command.Command.{Command}
 use Rattle.sg_rows.specs.declared.fault.Fault.{Fault}
 

@@ -1,11 +1,7 @@
-pub mod ShapeFacts
-pub mod Shapes
-pub mod SemigroupFacts
-pub mod IdealFacts
-pub mod ListFacts
-pub mod ListMakers
+pub mod Asked
+pub mod Delivered
 pub mod Commands
-pub mod Words
+pub mod Remainders
 pub mod Rows
 pub mod Operations
 pub mod Answers

@@ -1,15 +1,16 @@
 -- The rows of the operators.
-use Rattle.std.specs.Prelude.{◌≡◌, ℕ, ℤ, pos, ◌+ℤ◌, ◌-ℤ◌, ◌*ℤ◌, ◌≤ℤ◌, ◌<ℤ◌, List, Option, Some, None}
-use Rattle.sg_value.specs.Plain.{Things}
+use Rattle.std.specs.Prelude.{◌≡◌, ℤ, pos, ◌+ℤ◌, ◌-ℤ◌, ◌*ℤ◌, ◌≤ℤ◌, ◌<ℤ◌}
 use Rattle.sg_defs.specs.Membership.{IsIntegerMember}
-use Rattle.sg_value.specs.Data.{int, Items}
+use Rattle.sg_value.specs.Data.{int}
 use Rattle.sg_rows.specs.Order.{Plain, Case, unfit, fits}
-use Rattle.sg_rows.specs.Kinds.{given, as_list, as_integer, as_semigroup, answers, an_integer, whether}
 use Rattle.sg_rows.specs.Alternatives.{or_else}
-use Rattle.sg_relative.specs.Facts.{ideal_member_of}
-use Rattle.sg_relative.specs.Operators.{plus_of, less_of, times_of}
-use Rattle.sg_calls.specs.Words.{IsRemainder}
-use Rattle.sg_rows.specs.Words.{IsEntry}
+use Rattle.sg_rows.specs.Entries.{IsEntry}
+use Rattle.sg_rows.specs.Forms.{on_integer_and_semigroup, on_integer_and_ideal, on_list_and_semigroup, on_two_ideals}
+use Rattle.sg_rows.specs.Kinds.{given, fitted, as_integer, as_list, two_integers}
+use Rattle.sg_rows.specs.Values.{answers, an_integer, whether}
+use Rattle.sg_rows_ideals.specs.Rows.{generated_row, member_row, multiple_row, pair_row, translate_row}
+use Rattle.sg_rows_ideals.specs.declared.pairs.Pair.TheVariants.{Difference, Sum}
+use Rattle.sg_calls.specs.Remainders.{IsRemainder}
 use Rattle.sg_calls.specs.declared.operator.Operator.{Operator}
 use Rattle.sg_calls.specs.declared.operator.Operator.TheVariants.{Plus, Less, Times, Mod, Eq, Ne, Lt, Le, Gt, Ge, Member}
 
@@ -23,31 +24,29 @@ calculation Lt x y = fits (answers (whether (x <ℤ y)))
 calculation Le x y = fits (answers (whether (x ≤ℤ y)))
 calculation Gt x y = fits (answers (whether (y <ℤ x)))
 calculation Ge x y = fits (answers (whether (y ≤ℤ x)))
-calculation Eq x y = unfit
-calculation Ne x y = unfit
-calculation Member x y = unfit
+calculation _ x y = unfit
 
 abbrev pub of_integers : Operator → Plain → Plain → Case
-of_integers op a b = given (as_integer a) (λ x. given (as_integer b) (λ y. calculation op x y))
-
--- whether an integer is a member of the semigroup
-abbrev pub membership_of : Plain → List ℕ → Case
-membership_of a G = given (as_integer a) (λ x. fits (answers (whether (IsIntegerMember G x))))
+of_integers op a b = given (two_integers a b) (λ p. calculation op p.0 p.1)
 
 -- whether a list has the value as an entry, or a semigroup or an ideal the integer as a member
-abbrev pub membership : Plain → Plain → Option (Items Things) → Option (List ℕ) → Case
-membership a b (Some ds) o = fits (answers (whether (IsEntry a ds)))
-membership a b None (Some G) = membership_of a G
-membership a b None None = ideal_member_of a b
+abbrev pub membership : Plain → Plain → Case
+membership a b =
+    or_else (fitted (as_list b) (λ ds. answers (whether (IsEntry a ds))))
+    (or_else (on_integer_and_semigroup a b (λ x G. answers (whether (IsIntegerMember G x)))) (on_integer_and_ideal a b member_row))
+
+-- the sums of an integer and an ideal, or the ideal that a list of integers generates over a semigroup
+abbrev pub moved_or_generated : Plain → Plain → Case
+moved_or_generated a b = or_else (on_integer_and_ideal a b translate_row) (on_list_and_semigroup a b generated_row)
 
 -- what the row of an operator says of its operands
 abbrev pub operation : Operator → Plain → Plain → Case
 operation Eq a b = fits (answers (whether (a ≡ b)))
 operation Ne a b = fits (answers (whether (a ≡ b → ⊥)))
-operation Member a b = membership a b (as_list b) (as_semigroup b)
-operation Plus a b = or_else (of_integers Plus a b) (plus_of a b)
-operation Less a b = or_else (of_integers Less a b) (less_of a b)
-operation Times a b = or_else (of_integers Times a b) (times_of a b)
+operation Member a b = membership a b
+operation Plus a b = or_else (of_integers Plus a b) (or_else (on_two_ideals a b (pair_row Sum)) (moved_or_generated a b))
+operation Less a b = or_else (of_integers Less a b) (on_two_ideals a b (pair_row Difference))
+operation Times a b = or_else (of_integers Times a b) (on_integer_and_ideal a b multiple_row)
 operation Mod a b = of_integers Mod a b
 operation Lt a b = of_integers Lt a b
 operation Le a b = of_integers Le a b
@@ -56,4 +55,4 @@ operation Ge a b = of_integers Ge a b
 
 -- what the row of the minus sign says of its operand
 abbrev pub negation : Plain → Case
-negation a = given (as_integer a) (λ x. fits (answers (λ d. d ≡ int (pos 0 -ℤ x))))
+negation a = fitted (as_integer a) (λ x. answers (λ d. d ≡ int (pos 0 -ℤ x)))

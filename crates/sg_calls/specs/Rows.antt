@@ -1,40 +1,29 @@
 -- Which row answers which command.
 use Rattle.sg_value.specs.Plain.{Things}
 use Rattle.sg_value.specs.Data.{Items}
+use Rattle.sg_rows.specs.Alternatives.{or_else}
 use Rattle.sg_rows.specs.Order.{Case}
-use Rattle.sg_rows.specs.Kinds.{given, sole, spread}
-use Rattle.sg_rows.specs.Several.{of_two, of_three}
-use Rattle.sg_lists.specs.Lists.{gcd_of, lcm_of, concatenation_of}
-use Rattle.sg_makers.specs.Makers.{semigroup_of}
-use Rattle.sg_makers.specs.Derived.{quotient_of}
-use Rattle.sg_makers.specs.Modular.{modular_of, proportional_of}
-use Rattle.sg_facts.specs.Lists.{apery_list_of}
-use Rattle.sg_facts.specs.Modulo.{apery_list_modulo_of}
-use Rattle.sg_calls.specs.Shapes.{one_or_two}
-use Rattle.sg_calls.specs.SemigroupFacts as semigroup
-use Rattle.sg_calls.specs.ShapeFacts as shape
-use Rattle.sg_relative.specs.Generated.{ideal_of_list}
-use Rattle.sg_calls.specs.IdealFacts as ideal
-use Rattle.sg_calls.specs.IdealFacts.{both_of}
-use Rattle.sg_calls.specs.ListFacts as list
-use Rattle.sg_calls.specs.ListMakers as maker
+use Rattle.sg_rows_lists.specs.Lists as lists
+use Rattle.sg_rows_constructors.specs.Makers as makers
+use Rattle.sg_rows_constructors.specs.declared.maker.Maker.TheVariants as maker
+use Rattle.sg_rows_invariants.specs.Facts as facts
+use Rattle.sg_rows_invariants.specs.declared.fact.Fact.TheVariants as fact
+use Rattle.sg_rows_invariants.specs.declared.fact.GeneratorsFact.TheVariants as generators
+use Rattle.sg_rows_symmetry.specs.Shapes as shapes
+use Rattle.sg_rows_ideals.specs.Ideals as ideals
+use Rattle.sg_rows_ideals.specs.declared.facts.IdealFact.TheVariants.{Generators}
+use Rattle.sg_rows_ideals.specs.declared.ideals.IdealCommand.TheVariants.{OfIdeal, OfTwoIdeals}
+use Rattle.sg_rows_ideals.specs.declared.pairs.Pair.TheVariants as pair
 use Rattle.sg_calls.specs.declared.command.Command.{Command}
-use Rattle.sg_calls.specs.declared.command.Command.TheVariants.{OfIdeal, IdealOfNumericalSemigroup, OfSemigroup, OfList, FromList, Concatenation, Gcd, Intersection, Lcm, NumericalSemigroup, QuotientOfNumericalSemigroup, AperyList, ModularNumericalSemigroup, ProportionallyModularNumericalSemigroup, OfShape}
+use Rattle.sg_calls.specs.declared.command.Command.TheVariants.{Lists, Makers, Facts, Shapes, Ideals, Shared}
+use Rattle.sg_calls.specs.declared.command.Shared.TheVariants.{Intersection, MinimalGenerators}
 
--- what the row of a command says of arguments
+-- what the row of a command says of arguments: one that semigroups and ideals have in common, first of semigroups
 abbrev pub row : Command → Items Things → Case
-row (FromList make) args = given (sole args) (maker.made_by make)
-row (OfIdeal fact) args = given (sole args) (ideal.fact_of fact)
-row (OfList fact) args = given (sole args) (list.fact_of fact)
-row (OfSemigroup fact) args = given (sole args) (semigroup.fact_of fact)
-row (OfShape fact) args = given (sole args) (shape.fact_of fact)
-row AperyList args = one_or_two args apery_list_of apery_list_modulo_of
-row Concatenation args = concatenation_of args
-row Gcd args = given (spread args) gcd_of
-row IdealOfNumericalSemigroup args = of_two args ideal_of_list
-row Intersection args = of_two args both_of
-row Lcm args = given (spread args) lcm_of
-row ModularNumericalSemigroup args = of_two args modular_of
-row NumericalSemigroup args = given (spread args) semigroup_of
-row ProportionallyModularNumericalSemigroup args = of_three args proportional_of
-row QuotientOfNumericalSemigroup args = of_two args quotient_of
+row (Lists c) args = lists.case_of c args
+row (Makers c) args = makers.case_of c args
+row (Facts c) args = facts.case_of c args
+row (Shapes c) args = shapes.case_of c args
+row (Ideals c) args = ideals.case_of c args
+row (Shared Intersection) args = or_else (makers.case_of maker.Intersection args) (ideals.case_of (OfTwoIdeals pair.Intersection) args)
+row (Shared MinimalGenerators) args = or_else (facts.case_of (fact.OfGenerators generators.MinimalGenerators) args) (ideals.case_of (OfIdeal Generators) args)

@@ -9,20 +9,61 @@ ghost use Rattle.sg_calls.specs.Rows.{row};
 ghost use Rattle.sg_rows.specs.Replies.{Replies};
 ghost use Rattle.sg_calls.specs.Answers.{case_of};
 
-use crate::apery::apery;
-use crate::command::{Command, command_named};
-use crate::ideal_facts::{self, in_both};
-use crate::{list_facts, list_makers, semigroup_facts, shape_facts};
-use sg_lists::{concatenation_of, gcd_of, lcm_of};
-use sg_makers::{modular_of, numerical_semigroup_of, proportional_of, quotient_of};
-use sg_relative::ideal_of_list;
-use sg_rows::{CallFault, Fault};
+use crate::asks::{one_list_of_generators, two_tables};
+use crate::command::{Command, Shared, command_named};
+use crate::delivering::deliver;
+use crate::families::{on_facts, on_ideals, on_lists, on_makers, on_shapes};
+use sg_rows::{CallFault, Fault, OfGenerators};
+use sg_rows_constructors::intersection;
+use sg_rows_ideals::{IdealCommand, IdealFact, Pair};
+use sg_rows_invariants::GeneratorsFact;
 use sg_store::Store;
 use sg_value::Value;
 use std::alloc::Global;
 
-/// What the row of a command answers.
-fn perform(
+/// The members of both semigroups, or else of both ideals.
+fn of_intersection(alloc: Global, store: &mut Store, args: &[Value]) -> Result<Value, CallFault>
+    requires known { AllKnownIn (named store.old) args.now }
+    requires count { length args.now ≡ 2 }
+    ensures reply { Replies result store.new (row (Command.Shared Shared.Intersection) (plain_of_all (named store.old) args.now)) }
+    ensures keeps { Keeps store.old store.new }
+{
+    match two_tables(alloc, store, &args[0], &args[1])? {
+        Some((one, other)) => deliver(alloc, store, intersection(alloc, &one, &other)),
+        None => on_ideals(
+            alloc,
+            store,
+            IdealCommand::OfTwoIdeals(Pair::Intersection),
+            args,
+        ),
+    }
+}
+
+/// The minimal generators of a semigroup, or else of an ideal.
+fn of_minimal_generators(
+    alloc: Global,
+    store: &mut Store,
+    args: &[Value],
+) -> Result<Value, CallFault>
+    requires { AllKnownIn (named store.old) args.now }
+    ensures reply { Replies result store.new (row (Command.Shared Shared.MinimalGenerators) (plain_of_all (named store.old) args.now)) }
+    ensures keeps { Keeps store.old store.new }
+{
+    let Some(generators) = one_list_of_generators(store, args) else {
+        return on_ideals(
+            alloc,
+            store,
+            IdealCommand::OfIdeal(IdealFact::Generators),
+            args,
+        );
+    };
+    let told = GeneratorsFact::MinimalGenerators.tell(alloc, generators);
+    deliver(alloc, store, told)
+}
+
+/// What the row of a command answers. Known ids go on to stand for what they stood for, and each id in the value is
+/// known.
+pub fn perform(
     alloc: Global,
     store: &mut Store,
     command: Command,
@@ -34,23 +75,13 @@ fn perform(
     ensures keeps { Keeps store.old store.new }
 {
     match command {
-        Command::OfSemigroup(fact) => semigroup_facts::tell(alloc, store, fact, &args[0]),
-        Command::OfShape(fact) => shape_facts::tell(alloc, store, fact, &args[0]),
-        Command::OfIdeal(fact) => ideal_facts::tell(alloc, store, fact, &args[0]),
-        Command::OfList(fact) => list_facts::tell(alloc, fact, &args[0]),
-        Command::FromList(maker) => list_makers::make(alloc, store, maker, &args[0]),
-        Command::AperyList => apery(alloc, store, args),
-        Command::Concatenation => concatenation_of(alloc, args),
-        Command::Gcd => gcd_of(alloc, args),
-        Command::IdealOfNumericalSemigroup => ideal_of_list(alloc, store, &args[0], &args[1]),
-        Command::Intersection => in_both(alloc, store, &args[0], &args[1]),
-        Command::Lcm => lcm_of(alloc, args),
-        Command::ModularNumericalSemigroup => modular_of(alloc, store, &args[0], &args[1]),
-        Command::NumericalSemigroup => numerical_semigroup_of(alloc, store, args),
-        Command::ProportionallyModularNumericalSemigroup => {
-            proportional_of(alloc, store, &args[0], &args[1], &args[2])
-        }
-        Command::QuotientOfNumericalSemigroup => quotient_of(alloc, store, &args[0], &args[1]),
+        Command::Lists(command) => on_lists(alloc, store, command, args),
+        Command::Makers(maker) => on_makers(alloc, store, maker, args),
+        Command::Facts(fact) => on_facts(alloc, store, fact, args),
+        Command::Shapes(shape) => on_shapes(alloc, store, shape, args),
+        Command::Ideals(command) => on_ideals(alloc, store, command, args),
+        Command::Shared(Shared::Intersection) => of_intersection(alloc, store, args),
+        Command::Shared(Shared::MinimalGenerators) => of_minimal_generators(alloc, store, args),
     }
 }
 

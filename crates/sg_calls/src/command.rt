@@ -1,193 +1,136 @@
-//! The names of the commands, and how many arguments each takes.
+//! The commands, joined from their families, and the names that no family has.
 
-ghost use Rattle.std.specs.Prelude.{◌≡◌, map};
-ghost use Rattle.std.specs.Map.{lookup};
-ghost use Rattle.std.specs.Str.{bytes_eq};
-ghost use Rattle.sg_calls.specs.Commands.{command_named, takes, checked, entry_of};
+ghost use Rattle.std.specs.Prelude.{◌≡◌};
+ghost use Rattle.sg_calls.specs.Commands.{word_named, family_command, command_named, takes, checked};
 
-use crate::ideal_facts::IdealFact;
-use crate::list_facts::ListFact;
-use crate::list_makers::ListMaker;
-use crate::semigroup_facts::SemigroupFact;
-use crate::shape_facts::ShapeFact;
-use sg_rows::Fault;
+use sg_rows::{Fault, Named, find};
+use sg_rows_constructors::Maker;
+use sg_rows_ideals::IdealCommand;
+use sg_rows_invariants::Fact;
+use sg_rows_lists::ListCommand;
+use sg_rows_symmetry::Shape;
 
-/// A command, with those of one argument by what they take and give.
-#[derive(Clone, Copy, PartialEq, Eq, Debug)]
+/// A command, by the family that it is of.
+#[derive(Clone, Copy)]
 pub enum Command {
-    /// A fact of one semigroup.
-    OfSemigroup(SemigroupFact),
-    /// A fact of the shape of one semigroup, or semigroups made of it.
-    OfShape(ShapeFact),
-    /// A command that takes an ideal or makes one.
-    OfIdeal(IdealFact),
-    /// A fact of one list.
-    OfList(ListFact),
-    /// A semigroup from one list of integers.
-    FromList(ListMaker),
-    AperyList,
-    Concatenation,
-    Gcd,
-    IdealOfNumericalSemigroup,
-    Intersection,
-    Lcm,
-    ModularNumericalSemigroup,
-    NumericalSemigroup,
-    ProportionallyModularNumericalSemigroup,
-    QuotientOfNumericalSemigroup,
+    /// On lists and integers.
+    Lists(ListCommand),
+    /// Makes a numerical semigroup.
+    Makers(Maker),
+    /// A fact of a numerical semigroup.
+    Facts(Fact),
+    /// The shape of a numerical semigroup.
+    Shapes(Shape),
+    /// On relative ideals.
+    Ideals(IdealCommand),
+    /// On semigroups or on ideals.
+    Shared(Shared),
 }
 
-/// A name and the command that it stands for.
-struct Named(&'static [u8], Command);
+/// A command that semigroups and ideals have in common.
+#[derive(Clone, Copy)]
+pub enum Shared {
+    /// The members of both.
+    Intersection,
+    /// The minimal generators.
+    MinimalGenerators,
+}
 
-/// The names of all commands.
-static NAMES: [Named; 43] = [
+/// What is done with the values that an arrow gives.
+#[derive(Clone, Copy)]
+pub enum Folding {
+    /// The list of all values.
+    EachValue,
+    /// The list of the entries of which the value is true.
+    ThoseTrue,
+    /// Whether all values are true.
+    AllTrue,
+    /// Whether one value is true.
+    AnyTrue,
+    /// How many values are true.
+    CountTrue,
+}
+
+/// What a name stands for.
+#[derive(Clone, Copy)]
+pub enum Word {
+    /// The statement that prints.
+    Print,
+    /// A command whose second argument is an arrow.
+    Arrow(Folding),
+    /// A command of values.
+    Command(Command),
+}
+
+/// The names that no family has.
+static OWN_NAMES: [Named<Word>; 8] = [
+    Named(b"Filtered", Word::Arrow(Folding::ThoseTrue)),
+    Named(b"ForAll", Word::Arrow(Folding::AllTrue)),
+    Named(b"ForAny", Word::Arrow(Folding::AnyTrue)),
     Named(
-        b"AmbientNumericalSemigroupOfIdeal",
-        Command::OfIdeal(IdealFact::AmbientNumericalSemigroupOfIdeal),
+        b"Intersection",
+        Word::Command(Command::Shared(Shared::Intersection)),
     ),
-    Named(b"AperyList", Command::AperyList),
-    Named(b"ArfClosure", Command::OfShape(ShapeFact::ArfClosure)),
-    Named(
-        b"CanonicalIdeal",
-        Command::OfIdeal(IdealFact::CanonicalIdeal),
-    ),
-    Named(b"Concatenation", Command::Concatenation),
-    Named(b"Conductor", Command::OfSemigroup(SemigroupFact::Conductor)),
-    Named(
-        b"DecomposeIntoIrreducibles",
-        Command::OfShape(ShapeFact::DecomposeIntoIrreducibles),
-    ),
-    Named(
-        b"EmbeddingDimension",
-        Command::OfSemigroup(SemigroupFact::EmbeddingDimension),
-    ),
-    Named(
-        b"FrobeniusNumber",
-        Command::OfSemigroup(SemigroupFact::FrobeniusNumber),
-    ),
-    Named(
-        b"FundamentalGaps",
-        Command::OfSemigroup(SemigroupFact::FundamentalGaps),
-    ),
-    Named(b"Gaps", Command::OfSemigroup(SemigroupFact::Gaps)),
-    Named(b"Gcd", Command::Gcd),
-    Named(b"Genus", Command::OfSemigroup(SemigroupFact::Genus)),
-    Named(
-        b"IdealOfNumericalSemigroup",
-        Command::IdealOfNumericalSemigroup,
-    ),
-    Named(b"Intersection", Command::Intersection),
-    Named(b"IsArf", Command::OfShape(ShapeFact::IsArf)),
-    Named(b"IsIrreducible", Command::OfShape(ShapeFact::IsIrreducible)),
-    Named(b"IsMED", Command::OfShape(ShapeFact::IsMED)),
-    Named(
-        b"IsPseudoSymmetric",
-        Command::OfShape(ShapeFact::IsPseudoSymmetric),
-    ),
-    Named(b"IsSaturated", Command::OfShape(ShapeFact::IsSaturated)),
-    Named(b"IsSymmetric", Command::OfShape(ShapeFact::IsSymmetric)),
-    Named(b"Lcm", Command::Lcm),
-    Named(b"Length", Command::OfList(ListFact::Length)),
-    Named(b"MEDClosure", Command::OfShape(ShapeFact::MEDClosure)),
-    Named(b"MaximalIdeal", Command::OfIdeal(IdealFact::MaximalIdeal)),
-    Named(b"Maximum", Command::OfList(ListFact::Maximum)),
+    Named(b"List", Word::Arrow(Folding::EachValue)),
     Named(
         b"MinimalGenerators",
-        Command::OfIdeal(IdealFact::MinimalGenerators),
+        Word::Command(Command::Shared(Shared::MinimalGenerators)),
     ),
-    Named(b"Minimum", Command::OfList(ListFact::Minimum)),
-    Named(
-        b"ModularNumericalSemigroup",
-        Command::ModularNumericalSemigroup,
-    ),
-    Named(
-        b"Multiplicity",
-        Command::OfSemigroup(SemigroupFact::Multiplicity),
-    ),
-    Named(b"NumericalSemigroup", Command::NumericalSemigroup),
-    Named(
-        b"NumericalSemigroupByAperyList",
-        Command::FromList(ListMaker::AperyList),
-    ),
-    Named(
-        b"NumericalSemigroupByFundamentalGaps",
-        Command::FromList(ListMaker::FundamentalGaps),
-    ),
-    Named(
-        b"NumericalSemigroupByGaps",
-        Command::FromList(ListMaker::Gaps),
-    ),
-    Named(
-        b"NumericalSemigroupBySmallElements",
-        Command::FromList(ListMaker::SmallElements),
-    ),
-    Named(
-        b"ProportionallyModularNumericalSemigroup",
-        Command::ProportionallyModularNumericalSemigroup,
-    ),
-    Named(
-        b"PseudoFrobenius",
-        Command::OfSemigroup(SemigroupFact::PseudoFrobenius),
-    ),
-    Named(
-        b"QuotientOfNumericalSemigroup",
-        Command::QuotientOfNumericalSemigroup,
-    ),
-    Named(
-        b"SaturatedClosure",
-        Command::OfShape(ShapeFact::SaturatedClosure),
-    ),
-    Named(
-        b"SmallElements",
-        Command::OfSemigroup(SemigroupFact::SmallElements),
-    ),
-    Named(
-        b"SpecialGaps",
-        Command::OfSemigroup(SemigroupFact::SpecialGaps),
-    ),
-    Named(b"Sum", Command::OfList(ListFact::Sum)),
-    Named(b"Type", Command::OfSemigroup(SemigroupFact::Type)),
+    Named(b"Number", Word::Arrow(Folding::CountTrue)),
+    Named(b"Print", Word::Print),
 ];
 
-/// The command of the first entry with this name.
-fn find(entries: &[Named], name: &[u8]) -> Option<Command>
-    ensures { result ≡ lookup (bytes_eq name.now) (map entry_of entries.now) }
+/// The command of this name in the first family that has it.
+fn family_command(name: &[u8]) -> Option<Command>
+    ensures { result ≡ family_command name.now }
 {
-    for entry in entries {
-        if name == entry.0 {
-            return Some(entry.1);
-        }
+    if let Some(command) = sg_rows_lists::named(name) {
+        return Some(Command::Lists(command));
     }
-    None
+    if let Some(maker) = sg_rows_constructors::named(name) {
+        return Some(Command::Makers(maker));
+    }
+    if let Some(fact) = sg_rows_invariants::named(name) {
+        return Some(Command::Facts(fact));
+    }
+    if let Some(shape) = sg_rows_symmetry::named(name) {
+        return Some(Command::Shapes(shape));
+    }
+    Some(Command::Ideals(sg_rows_ideals::named(name)?))
 }
 
-/// The command of this name.
+/// What this name stands for.
+pub fn word_named(name: &[u8]) -> Option<Word>
+    ensures { result ≡ word_named name.now }
+{
+    match find(&OWN_NAMES, name) {
+        Some(word) => Some(word),
+        None => Some(Word::Command(family_command(name)?)),
+    }
+}
+
+/// The command of values of this name.
 pub fn command_named(name: &[u8]) -> Option<Command>
     ensures { result ≡ command_named name.now }
 {
-    find(&NAMES, name)
+    match word_named(name) {
+        Some(Word::Command(command)) => Some(command),
+        _ => None,
+    }
 }
 
 /// Whether the command takes so many arguments.
-fn takes(command: Command, count: usize) -> bool
+pub fn takes(command: Command, count: usize) -> bool
     ensures { result ≡ takes command count }
 {
     match command {
-        Command::OfSemigroup(_)
-        | Command::OfShape(_)
-        | Command::OfIdeal(_)
-        | Command::OfList(_)
-        | Command::FromList(_) => count == 1,
-        Command::AperyList => count == 1 || count == 2,
-        Command::IdealOfNumericalSemigroup
-        | Command::Intersection
-        | Command::ModularNumericalSemigroup
-        | Command::QuotientOfNumericalSemigroup => count == 2,
-        Command::ProportionallyModularNumericalSemigroup => count == 3,
-        Command::Concatenation | Command::Gcd | Command::Lcm | Command::NumericalSemigroup => {
-            count >= 1
-        }
+        Command::Lists(command) => sg_rows_lists::takes(command, count),
+        Command::Makers(maker) => sg_rows_constructors::takes(maker, count),
+        Command::Facts(fact) => sg_rows_invariants::takes(fact, count),
+        Command::Shapes(shape) => sg_rows_symmetry::takes(shape, count),
+        Command::Ideals(command) => sg_rows_ideals::takes(command, count),
+        Command::Shared(Shared::Intersection) => count == 2,
+        Command::Shared(Shared::MinimalGenerators) => count == 1,
     }
 }
 

@@ -1,17 +1,19 @@
 //! The operator `in`.
 
-ghost use Rattle.std.specs.Prelude.{◌≡◌, ◌↔◌, ℕ, List, Some, IsSome, IsTrue, slice_get};
+ghost use Rattle.std.specs.Prelude.{◌≡◌, ◌↔◌, IsTrue};
 ghost use Rattle.sg_value.specs.Known.{named};
 ghost use Rattle.sg_value.specs.Plain.{AllKnown, AllKnownIn, plain, plain_of_all};
 ghost use Rattle.sg_rows.specs.Replies.{Replies};
-ghost use Rattle.sg_rows.specs.Words.{IsEntry};
-ghost use Rattle.sg_calls.specs.Operations.{operation, membership_of};
+ghost use Rattle.sg_rows.specs.Entries.{IsEntry};
+ghost use Rattle.sg_rows.specs.Forms.{on_integer_and_ideal};
+ghost use Rattle.sg_rows_ideals.specs.Rows.{member_row};
+ghost use Rattle.sg_calls.specs.Operations.{membership};
 
-use crate::operator::Operator;
-use sg_relative::ideal_member_of;
-use sg_rows::{CallFault, Fault, entries_of, integer_of, semigroup_of, truth};
+use crate::asks::{integer_then_table, table_of_ideal};
+use sg_rows::{CallFault, Fault, entries_of, integer_then_ideal};
+use sg_rows_ideals::is_member;
 use sg_store::Store;
-use sg_value::{SemId, Value};
+use sg_value::Value;
 use std::alloc::Global;
 
 /// Whether the value is an entry of the list.
@@ -28,17 +30,23 @@ fn is_among(store: &Store, v: &Value, entries: &[Value]) -> bool
     false
 }
 
-/// Whether the value, which has to be an integer, is a member of the semigroup.
-fn is_member(alloc: Global, store: &mut Store, v: &Value, id: SemId) -> Result<Value, CallFault>
-    requires { IsSome (slice_get store.old.semigroups id) }
-    ensures reply { (gens : List ℕ) → slice_get store.old.semigroups id ≡ Some gens → Replies result store.new (membership_of (plain (named store.old) v.now) gens) }
+/// Whether the integer is a member of the ideal.
+fn is_in_ideal(
+    alloc: Global,
+    store: &mut Store,
+    v: &Value,
+    whole: &Value,
+) -> Result<Value, CallFault>
+    requires { AllKnown (named store.old) whole.now }
+    ensures reply { Replies result store.new (on_integer_and_ideal (plain (named store.old) v.now) (plain (named store.old) whole.now) member_row) }
     ensures unchanged { store.new ≡ store.old }
 {
-    let Some(x) = integer_of(v) else {
+    let Some((x, id)) = integer_then_ideal(v, whole) else {
         return Err(CallFault::Script(Fault::WrongType));
     };
-    let table = store.table(alloc, id)?;
-    Ok(truth(table.contains(x)))
+    let table = table_of_ideal(alloc, store, id)?;
+    let generators = store.ideal_generators(id).as_slice();
+    Ok(Value::Bool(is_member(x, &table, generators)))
 }
 
 /// Whether a list has the value as an entry, or a semigroup or an ideal the integer as a member.
@@ -50,14 +58,14 @@ pub fn member(
 ) -> Result<Value, CallFault>
     requires value { AllKnown (named store.old) v.now }
     requires whole { AllKnown (named store.old) whole.now }
-    ensures reply { Replies result store.new (operation Operator.Member (plain (named store.old) v.now) (plain (named store.old) whole.now)) }
+    ensures reply { Replies result store.new (membership (plain (named store.old) v.now) (plain (named store.old) whole.now)) }
     ensures unchanged { store.new ≡ store.old }
 {
     if let Some(entries) = entries_of(whole) {
-        return Ok(truth(is_among(store, v, entries)));
+        return Ok(Value::Bool(is_among(store, v, entries)));
     }
-    match semigroup_of(whole) {
-        Some(id) => is_member(alloc, store, v, id),
-        None => ideal_member_of(alloc, store, v, whole),
+    match integer_then_table(alloc, store, v, whole)? {
+        Some((x, table)) => Ok(Value::Bool(table.contains(x))),
+        None => is_in_ideal(alloc, store, v, whole),
     }
 }

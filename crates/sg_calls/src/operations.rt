@@ -1,47 +1,65 @@
 //! Operators on their operands.
 
-ghost use Rattle.std.specs.Prelude.{◌≡◌, ◌-ℤ◌, ◌↔◌, pos, ℕ, ℤ, List, SomeIff, FitsSigned, IsTrue, IsSome, slice_get};
-ghost use Rattle.sg_value.specs.Known.{Known, named};
+ghost use Rattle.std.specs.Prelude.{◌≡◌, pos, ℤ, MatchOption, SomeIff, FitsSigned};
 ghost use Rattle.std.specs.Int.{w64};
 ghost use Rattle.sg_value.specs.Data.{int};
-ghost use Rattle.sg_value.specs.Plain.{plain, contents, AllKnown};
+ghost use Rattle.sg_value.specs.Known.{Known, named};
+ghost use Rattle.sg_value.specs.Plain.{AllKnown, plain};
 ghost use Rattle.sg_store.specs.Interned.{Keeps};
 ghost use Rattle.sg_rows.specs.Order.{fits};
-ghost use Rattle.sg_rows.specs.Kinds.{answers, as_integer};
-ghost use Rattle.sg_calls.specs.Operations.{calculation, operation, negation, of_integers};
+ghost use Rattle.sg_rows.specs.Values.{answers};
 ghost use Rattle.sg_rows.specs.Replies.{Replies};
+ghost use Rattle.sg_calls.specs.Operations.{calculation, of_integers, operation, moved_or_generated, negation};
+ghost use Rattle.sg_calls.specs.Remainders.{IsRemainder};
 
+use crate::asks::{integer_then_ideal, list_then_table, two_ideals};
+use crate::delivering::deliver;
 use crate::membership::member;
 use crate::operator::Operator;
-use sg_relative::{less_of, plus_of, times_of};
-use sg_rows::{CallFault, Fault, integer, integer_of, truth};
+use sg_rows::{CallFault, Fault, integer_of, two_integers};
+use sg_rows_ideals::{Pair, generated, multiple_of, pair_of, translate_of};
 use sg_store::Store;
 use sg_value::Value;
 use std::alloc::Global;
 
-/// The remainder that is not negative.
-fn remainder(x: i64, y: i64) -> Result<Value, CallFault>
-    ensures { (store : Known) → Replies result store (calculation Operator.Mod x y) }
+/// The remainder that is not negative, where there is one.
+#[inline(always)]
+pub fn remainder(x: i64, y: i64) -> Option<i64>
+    ensures { MatchOption result (y ≡ pos 0) (IsRemainder x y) }
 {
     if y == 0 {
-        return Err(CallFault::Script(Fault::BadArgument));
+        return None;
     }
-    Ok(Value::Int(x.wrapping_rem_euclid(y)))
+    Some(x.wrapping_rem_euclid(y))
+}
+
+/// The integer, or that it is outside of 64 bits.
+fn integer(found: Option<i64>) -> Result<Value, CallFault>
+    ensures { (store : Known) (z : ℤ) → SomeIff found (FitsSigned w64 z) z → Replies result store (fits (answers (λ d. d ≡ int z))) }
+{
+    match found {
+        Some(z) => Ok(Value::Int(z)),
+        None => Err(CallFault::Script(Fault::Overflow)),
+    }
 }
 
 /// What the operator gives of two integers.
-fn calculate(op: Operator, x: i64, y: i64) -> Result<Value, CallFault>
+#[inline(always)]
+pub fn calculate(op: Operator, x: i64, y: i64) -> Result<Value, CallFault>
     ensures { (store : Known) → Replies result store (calculation op x y) }
 {
     match op {
         Operator::Plus => integer(x.checked_add(y)),
         Operator::Less => integer(x.checked_sub(y)),
         Operator::Times => integer(x.checked_mul(y)),
-        Operator::Mod => remainder(x, y),
-        Operator::Lt => Ok(truth(x < y)),
-        Operator::Le => Ok(truth(x <= y)),
-        Operator::Gt => Ok(truth(x > y)),
-        Operator::Ge => Ok(truth(x >= y)),
+        Operator::Mod => match remainder(x, y) {
+            Some(z) => Ok(Value::Int(z)),
+            None => Err(CallFault::Script(Fault::BadArgument)),
+        },
+        Operator::Lt => Ok(Value::Bool(x < y)),
+        Operator::Le => Ok(Value::Bool(x <= y)),
+        Operator::Gt => Ok(Value::Bool(x > y)),
+        Operator::Ge => Ok(Value::Bool(x >= y)),
         Operator::Eq | Operator::Ne | Operator::Member => {
             Err(CallFault::Script(Fault::WrongType))
         }
@@ -52,59 +70,88 @@ fn calculate(op: Operator, x: i64, y: i64) -> Result<Value, CallFault>
 fn on_integers(op: Operator, a: &Value, b: &Value) -> Result<Value, CallFault>
     ensures { (store : Known) → Replies result store (of_integers op (plain (named store) a.now) (plain (named store) b.now)) }
 {
-    let Some(x) = integer_of(a) else {
-        return Err(CallFault::Script(Fault::WrongType));
-    };
-    let Some(y) = integer_of(b) else {
-        return Err(CallFault::Script(Fault::WrongType));
-    };
-    calculate(op, x, y)
+    match two_integers(a, b) {
+        Some((x, y)) => calculate(op, x, y),
+        None => Err(CallFault::Script(Fault::WrongType)),
+    }
 }
 
-/// Whether both operands are integers.
-fn are_integers(a: &Value, b: &Value) -> bool
-    ensures { IsTrue result ↔ (IsSome (as_integer (contents a.now)) × IsSome (as_integer (contents b.now))) }
+/// The sums of an integer and an ideal, or else the ideal that a list of integers generates over a semigroup.
+fn on_ideal_or_list(
+    alloc: Global,
+    store: &mut Store,
+    a: &Value,
+    b: &Value,
+) -> Result<Value, CallFault>
+    requires right { AllKnown (named store.old) b.now }
+    ensures reply { Replies result store.new (moved_or_generated (plain (named store.old) a.now) (plain (named store.old) b.now)) }
+    ensures keeps { Keeps store.old store.new }
 {
-    integer_of(a).is_some() && integer_of(b).is_some()
+    if let Some((by, (table, ideal))) = integer_then_ideal(alloc, store, a, b)? {
+        return deliver(alloc, store, translate_of(alloc, by, &table, &ideal));
+    }
+    let Some((given, table)) = list_then_table(alloc, store, a, b)? else {
+        return Err(CallFault::Script(Fault::WrongType));
+    };
+    deliver(alloc, store, generated(alloc, given.as_slice(), &table))
 }
 
-/// The operator `+`, of two integers or else where an ideal is an operand or is made.
+/// The operator `+`: of two integers, of two ideals, of an integer and an ideal, or of a list of integers and a
+/// semigroup.
 fn plus(alloc: Global, store: &mut Store, a: &Value, b: &Value) -> Result<Value, CallFault>
     requires left { AllKnown (named store.old) a.now }
     requires right { AllKnown (named store.old) b.now }
     ensures reply { Replies result store.new (operation Operator.Plus (plain (named store.old) a.now) (plain (named store.old) b.now)) }
     ensures keeps { Keeps store.old store.new }
 {
-    if are_integers(a, b) {
-        return on_integers(Operator::Plus, a, b);
+    if let Some((x, y)) = two_integers(a, b) {
+        return calculate(Operator::Plus, x, y);
     }
-    plus_of(alloc, store, a, b)
+    match two_ideals(alloc, store, a, b)? {
+        Some(((table, one), (_, other))) => {
+            deliver(
+                alloc,
+                store,
+                pair_of(alloc, Pair::Sum, &table, &one, &other),
+            )
+        }
+        None => on_ideal_or_list(alloc, store, a, b),
+    }
 }
 
-/// The operator `-`, of two integers or else of two ideals.
+/// The operator `-`: of two integers, or of two ideals.
 fn less(alloc: Global, store: &mut Store, a: &Value, b: &Value) -> Result<Value, CallFault>
     requires left { AllKnown (named store.old) a.now }
     requires right { AllKnown (named store.old) b.now }
     ensures reply { Replies result store.new (operation Operator.Less (plain (named store.old) a.now) (plain (named store.old) b.now)) }
     ensures keeps { Keeps store.old store.new }
 {
-    if are_integers(a, b) {
-        return on_integers(Operator::Less, a, b);
+    if let Some((x, y)) = two_integers(a, b) {
+        return calculate(Operator::Less, x, y);
     }
-    less_of(alloc, store, a, b)
+    let Some(((table, one), (_, other))) = two_ideals(alloc, store, a, b)? else {
+        return Err(CallFault::Script(Fault::WrongType));
+    };
+    deliver(
+        alloc,
+        store,
+        pair_of(alloc, Pair::Difference, &table, &one, &other),
+    )
 }
 
-/// The operator `*`, of two integers or else of an integer and an ideal.
+/// The operator `*`: of two integers, or of an integer and an ideal.
 fn times(alloc: Global, store: &mut Store, a: &Value, b: &Value) -> Result<Value, CallFault>
-    requires left { AllKnown (named store.old) a.now }
     requires right { AllKnown (named store.old) b.now }
     ensures reply { Replies result store.new (operation Operator.Times (plain (named store.old) a.now) (plain (named store.old) b.now)) }
     ensures keeps { Keeps store.old store.new }
 {
-    if are_integers(a, b) {
-        return on_integers(Operator::Times, a, b);
+    if let Some((x, y)) = two_integers(a, b) {
+        return calculate(Operator::Times, x, y);
     }
-    times_of(alloc, store, a, b)
+    let Some((factor, (table, ideal))) = integer_then_ideal(alloc, store, a, b)? else {
+        return Err(CallFault::Script(Fault::WrongType));
+    };
+    deliver(alloc, store, multiple_of(alloc, factor, &table, &ideal))
 }
 
 /// The integer with the other sign.
@@ -131,8 +178,8 @@ pub fn combine(
     ensures keeps { Keeps store.old store.new }
 {
     match op {
-        Operator::Eq => Ok(truth(store.equal(a, b))),
-        Operator::Ne => Ok(truth(!store.equal(a, b))),
+        Operator::Eq => Ok(Value::Bool(store.equal(a, b))),
+        Operator::Ne => Ok(Value::Bool(!store.equal(a, b))),
         Operator::Member => member(alloc, store, a, b),
         Operator::Plus => plus(alloc, store, a, b),
         Operator::Less => less(alloc, store, a, b),

@@ -1,12 +1,11 @@
 -- What the order and the repeats of given generators do not change, and what does not change with a condition's form.
-use Rattle.std.proofs.Common.{◌≡◌, ℕ, ◌<◌, ◌≤◌, List, length, get_or, ap, subst, ◌∙◌, inl, inr, arith, ◌↔◌}
+use Rattle.std.proofs.Common.{◌≡◌, ℕ, ◌<◌, ◌≤◌, List, length, get_or, subst, ◌∙◌, inl, inr, arith, ◌↔◌}
 use Rattle.std.specs.Prelude.{Contains}
 use Rattle.std.specs.Int.{◌∣◌}
 use Rattle.std.specs.List.Sorted.{IsStrictlyIncreasing}
-use Rattle.std.proofs.lemmas.Bool.{cases_eq}
 use Rattle.std.proofs.lemmas.List.Elements.{All-from_get_or}
-use Rattle.std.proofs.lemmas.List.Kept.{AllPairs-from_increasing}
 use Rattle.sg_defs.specs.Membership.{IsMember, IsNumericalSemigroup, Generates}
+use Rattle.sg_defs.proofs.MinimalLemmas.{first-least}
 use Rattle.sg_defs.proofs.MembershipLemmas.{member-entry}
 use Rattle.sg_classes.proofs.OneListLemmas.{entry-listed}
 use Rattle.sg_classes.proofs.GeneratorLemmas.{contains-place, place-contains, member-listed, member-split, holds-from_entries}
@@ -45,13 +44,6 @@ generates-same xs ys keeps adds_none M g = record {
   minimal = g.minimal;
   same = λ n. ((λ p. (g.same n).0 (member-same xs ys keeps adds_none n p)), (λ q. member-same ys xs adds_none keeps n ((g.same n).1 q)));
 }
-
--- the first of ascending entries is the least
-pub first-least : (xs : List ℕ) → IsStrictlyIncreasing xs → (k : ℕ) → k < length xs → get_or xs 0 0 ≤ get_or xs k 0
-first-least xs up k l = elim (cases_eq k 0) [
-  | inl e ↦ omega (arith, ap (λ n. get_or xs n 0) e)
-  | inr other ↦ omega (arith, AllPairs-from_increasing xs up 0 k 0 (omega arith) l)
-]
 
 -- no member above 0 is below the first entry
 first-below : (G : List ℕ) → IsStrictlyIncreasing G → (n : ℕ) → 0 < n → IsMember G n → get_or G 0 0 ≤ n

@@ -6,19 +6,18 @@ use Rattle.std.proofs.lemmas.Nat.{mod_below, mod-mul-add}
 use Rattle.std.proofs.Math.Nat.{add-mod_right}
 use Rattle.std.specs.List.{range_with_len}
 use Rattle.std.proofs.lemmas.List.FromFn.{get_or-map-range_with_len, length-map-range_with_len}
-use Rattle.sg_defs.specs.Membership.{IsMember, Generates}
+use Rattle.sg_defs.specs.Membership.{IsMember, IsNumericalSemigroup, Generates}
 use Rattle.sg_defs.specs.Apery.{IsApery}
+use Rattle.sg_defs.proofs.DecidedLemmas.{member-decided}
 use Rattle.sg_defs.proofs.MembershipLemmas.{member-entry}
+use Rattle.sg_classes.specs.Entries.{AreSmall}
 use Rattle.sg_classes.specs.Fit.{IsFit, IsPastLimits, IsTooLarge}
 use Rattle.sg_classes.specs.Table.{IsAperyTable}
+use Rattle.sg_classes.proofs.ResidueLemmas.{member-residue}
 use Rattle.sg_classes.proofs.AperyLemmas.{apery-member}
 use Rattle.sg_classes.proofs.BoundLemmas.{apery-bound}
 use Rattle.sg_classes.proofs.ExistsLemmas.{IsCofinite, generates-exists}
 use Rattle.sg_classes.specs.declared.limits.TheConstants.{APERY_ENTRY_LIMIT, GENERATOR_LIMIT, MULTIPLICITY_LIMIT}
-
-times-up : (c m : ℕ) → 0 < m → c ≤ c * m
-times-up c zero l = absurd (omega arith)
-times-up c (suc m) l = omega arith
 
 -- whether one of the first entries is past its limit
 large-search : (M : List ℕ) (n : ℕ) → n ≤ length M → ((k : ℕ) × (k < length M) × (GENERATOR_LIMIT ≤ get_or M k 0)) ⊎ ((k : ℕ) → k < n → get_or M k 0 < GENERATOR_LIMIT)
@@ -62,16 +61,18 @@ module _ (M : List ℕ) (m : ℕ) (positive : 0 < m) (decided : (n : ℕ) → Is
     ]
   ]
 
-module _ (M : List ℕ) (m c : ℕ) (positive : 0 < m) (decided : (n : ℕ) → IsMember M n ⊎ (IsMember M n → ⊥)) (all : (n : ℕ) → c ≤ n → IsMember M n) where
+module _ (M : List ℕ) (m : ℕ) (semigroup : IsNumericalSemigroup M) (positive : 0 < m) where
   -- the least member in each class, and something elsewhere
   chosen : (i : ℕ) → (w : ℕ) × (i < m → IsLeastOf M m i w)
   chosen i = elim (cases_lt i m) [
     | inr past ↦ (0, λ l. absurd (omega arith))
     | inl inside ↦
-        let p = descend M m positive decided (c * m + i) (c * m + i) i (omega arith) (all (c * m + i) (omega (arith, times-up c m positive))) (mod-mul-add c m i inside) in
+        let n = member-residue M m i semigroup inside in
+        let p = descend M m positive (member-decided M) n.0 n.0 i (omega arith) n.1 n.2 in
         (p.0, λ l. p.1)
   ]
 
+  -- a numerical semigroup has an Apery list modulo each number
   pub apery-exists : (t : List ℕ) × IsApery M m t
   apery-exists = (
     map (λ i. (chosen i).0) (range_with_len 0 m),
@@ -86,29 +87,30 @@ module _ (M : List ℕ) (m c : ℕ) (positive : 0 < m) (decided : (n : ℕ) → 
       at : (i : ℕ) → i < m → get_or (map (λ i. (chosen i).0) (range_with_len 0 m)) i 0 ≡ (chosen i).0
       at i l = get_or-map-range_with_len (λ i. (chosen i).0) 0 m i i 0 l (omega arith)
 
-module _ (P : ℕ → Type 0) (c : ℕ) (h : IsCofinite P c) where
-  decided-member : (M : List ℕ) → Generates P M → (n : ℕ) → IsMember M n ⊎ (IsMember M n → ⊥)
-  decided-member M g n = elim (h.decided n) [
-    | inl p ↦ inl ((g.same n).0 p)
-    | inr out ↦ inr (λ q. out ((g.same n).1 q))
-  ]
+-- its Apery list modulo a member, with generators below the limit
+pub small-apery : (G : List ℕ) (n : ℕ) → IsNumericalSemigroup G → AreSmall G → 0 < n → IsMember G n →
+    (a : List ℕ) × IsApery G n a × ((i : ℕ) → i < n → get_or a i 0 ≤ n * GENERATOR_LIMIT)
+small-apery G n s small positive member =
+    let a = apery-exists G n s positive in
+    let long = a.1.entries in
+    let table : IsAperyTable G a.0 = record {
+      semigroup = s;
+      not_empty = omega (arith, long, positive);
+      modulus = subst (IsMember G) (sym long) member;
+      apery = subst (λ k. IsApery G k a.0) (sym long) a.1;
+    } in
+    (a.0, a.1, λ i l. omega (arith, apery-bound G a.0 GENERATOR_LIMIT table (λ j k. omega (arith, small j k)) i (omega (arith, long, l)), long))
 
+module _ (P : ℕ → Type 0) (c : ℕ) (h : IsCofinite P c) where
   -- within the limits every number from their product on is there
   fit-all : (M : List ℕ) → Generates P M → IsFit M → (n : ℕ) → APERY_ENTRY_LIMIT ≤ n → P n
   fit-all M g fit n l =
       let m = get_or M 0 0 in
       let positive : 0 < m = omega (arith, g.semigroup.positive 0 0 g.semigroup.not_empty) in
       let first : IsMember M m = member-entry M 0 g.semigroup.not_empty in
-      let made = apery-exists M m c positive (decided-member M g) (λ x k. (g.same x).0 (h.all x k)) in
-      let long = made.1.entries in
-      let table : IsAperyTable M made.0 = record {
-        semigroup = g.semigroup;
-        not_empty = omega (arith, long, positive);
-        modulus = subst (IsMember M) (sym long) first;
-        apery = subst (λ k. IsApery M k made.0) (sym long) made.1;
-      } in
-      let bound = apery-bound M made.0 GENERATOR_LIMIT table (λ j k. omega (arith, fit.small j k)) (n % m) (omega (arith, mod_below n m positive, long)) in
-      (g.same n).1 ((apery-member M m made.0 positive first made.1 n).1 (omega (arith, bound, long, fit.multiplicity, l)))
+      let made = small-apery M m g.semigroup fit.small positive first in
+      let bound = made.2 (n % m) (mod_below n m positive) in
+      (g.same n).1 ((apery-member M m made.0 positive first made.1 n).1 (omega (arith, bound, fit.multiplicity, l)))
 
   -- with a gap past that the semigroup is past the limits
   pub too_large-from_gap : (n : ℕ) → APERY_ENTRY_LIMIT ≤ n → (P n → ⊥) → IsTooLarge P

@@ -6,6 +6,7 @@ pub mod ExistsLemmas
 pub mod FitLemmas
 pub mod GeneratorLemmas
 pub mod KunzLemmas
+pub mod ListingLemmas
 pub mod LoweredLemmas
 pub mod OneListLemmas
 pub mod ResidueLemmas

@@ -16,7 +16,8 @@ same_residue-add a b g m h = sym (mod-add-mod a m g) ∙ ap (λ r. (r + g) % m) 
 abbrev pub IsReached : List ℕ → ℕ → ℕ → Type 0
 IsReached G m c = (k : ℕ) × IsMember G (c + k * m)
 
-reached-times : (G : List ℕ) (m q c : ℕ) → IsReached G m c → IsReached G m (q * c)
+-- each multiple of a reached number is reached
+pub reached-times : (G : List ℕ) (m q c : ℕ) → IsReached G m c → IsReached G m (q * c)
 reached-times G m q c h =
     let e : q * (c + h.0 * m) ≡ q * c + (q * h.0) * m = omega arith in
     (q * h.0, subst (IsMember G) e (member-times G q (c + h.0 * m) h.1))
@@ -35,13 +36,19 @@ reached-rest G p a b g h =
     reached-minus G p (a % b) ((a / b) * b) (subst (IsReached G (suc p)) e g) (reached-times G (suc p) (a / b) b h)
 
 -- Euclid's steps stay inside the reached numbers
-reached-gcd : (G : List ℕ) (p n a b : ℕ) → b ≤ n → IsReached G (suc p) a → IsReached G (suc p) b → (d : ℕ) × IsGcd a b d × IsReached G (suc p) d
+pub reached-gcd : (G : List ℕ) (p n a b : ℕ) → b ≤ n → IsReached G (suc p) a → IsReached G (suc p) b → (d : ℕ) × IsGcd a b d × IsReached G (suc p) d
 reached-gcd G p zero a b l g h = (a, IsGcd-from_zero a b (let e : b ≡ 0 = omega arith in e), g)
 reached-gcd G p (suc n) a zero l g h = (a, IsGcd-from_zero a 0 refl, g)
 reached-gcd G p (suc n) a (suc b) l g h =
     let less : a % suc b < suc b = mod_below a (suc b) (omega arith) in
     let r = reached-gcd G p n (suc b) (a % suc b) (omega arith) h (reached-rest G p a (suc b) g h) in
     (r.0, IsGcd-from_mod a (suc b) r.0 r.1, r.2)
+
+-- an entry, in the form of a reached number
+reached-entry : (G : List ℕ) (m i : ℕ) → i < length G → IsReached G m (get_or G i 0)
+reached-entry G m i l =
+    let e : get_or G i 0 ≡ get_or G i 0 + 0 * m = omega arith in
+    (0, subst (IsMember G) e (member-entry G i l))
 
 -- a common divisor of the entries is reached
 reached-divisor : (G : List ℕ) (p : ℕ) (gs : List ℕ) → ((i : ℕ) → i < length gs → IsReached G (suc p) (get_or gs i 0)) → (d : ℕ) × ((i : ℕ) → i < length gs → d ∣ get_or gs i 0) × IsReached G (suc p) d
@@ -55,6 +62,11 @@ reached-divisor G p (g ∷ gs) h =
     divides d e x y z zero l = x
     divides d e x y z (suc i) l = dvd_trans d y (z i (omega arith))
 
+-- the greatest common divisor of the entries is reached
+pub divisor-reached : (G : List ℕ) (m : ℕ) → 0 < m → (d : ℕ) × ((i : ℕ) → i < length G → d ∣ get_or G i 0) × IsReached G m d
+divisor-reached G zero l = absurd (omega arith)
+divisor-reached G (suc p) l = reached-divisor G p G (λ i m. reached-entry G (suc p) i m)
+
 -- what 0 divides is 0
 zero_divides : (n : ℕ) → 0 ∣ n → n ≡ 0
 zero_divides n h = sym (mod-zero n) ∙ mod-eq-zero_of_dvd 0 h
@@ -63,12 +75,6 @@ zero_divides n h = sym (mod-zero n) ∙ mod-eq-zero_of_dvd 0 h
 pub gcd-range : (a n d : ℕ) → 0 < n → IsGcd a n d → (0 < d) × (d ≤ n)
 gcd-range a n zero l h = absurd (omega (arith, zero_divides n h.1))
 gcd-range a n (suc d) l h = (omega arith, le_of_dvd l h.1)
-
--- an entry, in the form of a reached number
-reached-entry : (G : List ℕ) (m i : ℕ) → i < length G → IsReached G m (get_or G i 0)
-reached-entry G m i l =
-    let e : get_or G i 0 ≡ get_or G i 0 + 0 * m = omega arith in
-    (0, subst (IsMember G) e (member-entry G i l))
 
 -- a common divisor of the entries of a numerical semigroup is 1
 pub common_divisor-one : (G : List ℕ) (d : ℕ) → IsNumericalSemigroup G → ((i : ℕ) → i < length G → d ∣ get_or G i 0) → d ≡ 1
@@ -82,7 +88,7 @@ common_divisor-one G (suc d) s h =
 -- 1 is reached
 reached-one : (G : List ℕ) (p : ℕ) → IsNumericalSemigroup G → IsReached G (suc p) 1
 reached-one G p s =
-    let d = reached-divisor G p G (reached-entry G (suc p)) in
+    let d = divisor-reached G (suc p) (omega arith) in
     subst (IsReached G (suc p)) (common_divisor-one G d.0 s d.1) d.2
 
 -- in each residue class there is a member

@@ -4,7 +4,7 @@ use Rattle.std.proofs.lemmas.Bool.{cases_lt}
 use Rattle.sg_defs.specs.Membership.{IsMember, Generates, Holds}
 use Rattle.sg_defs.specs.Closures.{IsArf, IsArfClosure}
 use Rattle.sg_defs.proofs.MembershipLemmas.{member-zero, member-induction}
-use Rattle.sg_apery.proofs.GeneratorLemmas.{member-listed, place-contains}
+use Rattle.sg_classes.proofs.GeneratorLemmas.{member-listed, place-contains}
 use Rattle.sg_closure.specs.Marks.{IsIn, IsAbove, AreGeneratorMarks}
 use Rattle.sg_closure.specs.Steps.{HasSteps}
 use Rattle.sg_closure.proofs.MarkLemmas.{in-past, in-decided}
@@ -29,6 +29,7 @@ module _ (G : List ℕ) (before marks : List Bool) (start : AreGeneratorMarks G 
   in-sums a b p q =
       subst (IsIn marks) (let e : a + b - 0 ≡ a + b = omega arith in e) (in-arf a b 0 (omega arith) (omega arith) p q (keeps 0 start.zero))
 
+  -- with all steps the marks are closed under sums
   pub steps-above : IsAbove G marks
   steps-above = record {
     sums = in-sums;
@@ -36,6 +37,7 @@ module _ (G : List ℕ) (before marks : List Bool) (start : AreGeneratorMarks G 
         (λ i n l p. in-sums n (get_or G i 0) p (keeps (get_or G i 0) (start.generators (get_or G i 0) (place-contains G i l))));
   }
 
+  -- the semigroup of the marks is the Arf closure
   pub steps-closure : ((K : List ℕ) → IsArf K → ((n : ℕ) → IsIn before n → IsMember K n) → (n : ℕ) → IsIn marks n → IsMember K n) →
       (M : List ℕ) → Generates (IsIn marks) M → IsArfClosure G M
   steps-closure least M g = record {

@@ -29,6 +29,7 @@ combination-parts d (s ∷ ss) (negsuc k ∷ zs) h =
     let first : d ∣ s = h 0 (omega arith) in
     (r.0, suc k * s + r.1, r.2, dvd-add d (dvd-times d (suc k) s first) r.3, omega (arith, ints, negsuc-*ℤ-pos k s, r.4))
 
+-- a common divisor divides each integer combination
 pub combination-divides : (d : ℕ) (ss : List ℕ) (zs : List ℤ) (r : ℕ) → ((i : ℕ) → i < length ss → d ∣ get_or ss i 0) →
     integer_value_of ss zs ≡ pos r → d ∣ r
 combination-divides d ss zs r h e =

@@ -1,12 +1,13 @@
 -- A numerical semigroup above one with a short span is within the limits.
-use Rattle.std.proofs.Common.{ℕ, ◌+◌, ◌-◌, ◌^◌, ◌<◌, ◌≤◌, List, length, get_or, inl, inr, arith}
+use Rattle.std.proofs.Common.{ℕ, ◌+◌, ◌-◌, ◌<◌, ◌≤◌, List, length, get_or, inl, inr, arith}
 use Rattle.std.specs.Prelude.{pos}
 use Rattle.std.proofs.lemmas.Int.{ints}
 use Rattle.std.proofs.lemmas.Bool.{cases_lt}
 use Rattle.sg_defs.specs.Membership.{IsMember, IsNumericalSemigroup, Generates}
-use Rattle.sg_apery.specs.Fit.{IsPastLimits, IsTooLarge, IsSpan}
+use Rattle.sg_classes.specs.declared.limits.TheConstants.{MULTIPLICITY_LIMIT, SPAN_LIMIT}
+use Rattle.sg_classes.specs.Fit.{IsPastLimits, IsTooLarge, IsSpan}
 use Rattle.sg_defs.proofs.MembershipLemmas.{member-entry}
-use Rattle.sg_closure.specs.Marks.{IsShort}
+use Rattle.sg_lawful.specs.Spans.{IsShort}
 use Rattle.sg_defs.proofs.MinimalLemmas.{first-multiplicity, no_sum}
 
 -- what is greater than the span less the multiplicity is a member
@@ -19,10 +20,11 @@ span-one G s t a b = elim (cases_lt t s) [
   | inl less ↦ absurd (a.1.outside (b.1.above a.0 (omega (arith, ints, a.2, b.2, less))))
 ]
 
-pub short-span : (G : List ℕ) (s : ℕ) → IsShort G → IsSpan G s → s ≤ 2 ^ 24
+-- the span is within its limit
+pub short-span : (G : List ℕ) (s : ℕ) → IsShort G → IsSpan G s → s ≤ SPAN_LIMIT
 short-span G s h span = omega (arith, span-one G s h.0 span h.1, h.2)
 
-module _ (G : List ℕ) (short : IsShort G) (s : IsNumericalSemigroup G) (small : get_or G 0 0 ≤ 2 ^ 20)
+module _ (G : List ℕ) (short : IsShort G) (s : IsNumericalSemigroup G) (small : get_or G 0 0 ≤ MULTIPLICITY_LIMIT)
     (P : ℕ → Type 0) (holds : (n : ℕ) → IsMember G n → P n) where
   positive : 0 < get_or G 0 0
   positive = omega (arith, s.positive 0 0 s.not_empty)
@@ -41,5 +43,6 @@ module _ (G : List ℕ) (short : IsShort G) (s : IsNumericalSemigroup G) (small 
       no_sum M g.minimal large.0 large.1 (x - m) m (omega (arith, large.2, small)) positive
       ((g.same (x - m)).0 (holds (x - m) rest)) ((g.same m).0 (holds m member)) (omega (arith, large.2, small))
 
+  -- so what is above is within the limits
   pub not-too_large : IsTooLarge P → ⊥
   not-too_large h = fits h.0 h.1 h.2

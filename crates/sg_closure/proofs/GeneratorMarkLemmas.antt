@@ -1,13 +1,14 @@
 -- The marks of 0 and the generators on the numbers up to the span.
-use Rattle.std.proofs.Common.{◌≡◌, ℕ, zero, suc, ◌+◌, ◌-◌, ◌^◌, ◌<◌, ◌≤◌, ◌↔◌, Bool, false, List, length, get_or, replicate, ap, inl, inr, arith}
+use Rattle.std.proofs.Common.{◌≡◌, ℕ, zero, suc, ◌+◌, ◌-◌, ◌<◌, ◌≤◌, ◌↔◌, Bool, false, List, length, get_or, replicate, ap, inl, inr, arith}
 use Rattle.std.specs.Prelude.{◌⊎◌, ℤ, pos, negsuc, ◌<ℤ◌, Contains}
 use Rattle.std.proofs.lemmas.Int.{ints}
 use Rattle.std.proofs.lemmas.Bool.{cases_eq}
 use Rattle.std.proofs.lemmas.List.Kept.{AllPairs-from_increasing}
 use Rattle.sg_defs.specs.Membership.{IsNumericalSemigroup, IsMinimal}
 use Rattle.sg_defs.specs.Invariants.{IsFrobenius}
-use Rattle.sg_apery.specs.Fit.{IsSpan}
-use Rattle.sg_apery.proofs.GeneratorLemmas.{contains-place}
+use Rattle.sg_classes.specs.declared.limits.TheConstants.{SPAN_LIMIT}
+use Rattle.sg_classes.specs.Fit.{IsSpan}
+use Rattle.sg_classes.proofs.GeneratorLemmas.{contains-place}
 use Rattle.sg_closure.specs.Marks.{IsIn, AreGeneratorMarks}
 use Rattle.sg_closure.proofs.FitLemmas.{span-above}
 use Rattle.sg_closure.proofs.MarkLemmas.{none-in}
@@ -28,7 +29,8 @@ module _ (G : List ℕ) (span : ℕ) (s : IsNumericalSemigroup G) (minimal : IsM
     | inr other ↦ omega (arith, AllPairs-from_increasing G minimal.ascending k (length G - 1) 0 (omega arith) (omega arith))
   ]
 
-  pub generator_marks-are : span ≤ 2 ^ 24 → (marks : List Bool) → length marks ≡ span + 1 →
+  -- the marks that were made are those of the generators
+  pub generator_marks-are : span ≤ SPAN_LIMIT → (marks : List Bool) → length marks ≡ span + 1 →
       ((k : ℕ) → IsIn marks k ↔ ((IsIn (replicate (span + 1) false) k ⊎ (k ≡ 0)) ⊎ Contains G k)) → AreGeneratorMarks G marks
   generator_marks-are low marks long told = record {
     not_empty = omega arith;

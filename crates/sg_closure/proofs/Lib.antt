@@ -7,7 +7,6 @@ pub mod StepLemmas
 pub mod ArfLemmas
 pub mod TestLemmas
 pub mod DifferenceLemmas
-pub mod ReachedLemmas
 pub mod CombinationLemmas
 pub mod SaturationLemmas
 pub mod SaturatedLemmas

@@ -5,9 +5,9 @@ use Rattle.std.proofs.lemmas.Bool.{cases_lt, cases_eq, both_ways}
 use Rattle.std.proofs.lemmas.Nat.{mod_below}
 use Rattle.std.proofs.lemmas.List.{get_or_default, get_or_past, get_or-replicate, get_or_append_left, get_or_push, get_or-set_same, get_or-set_other}
 use Rattle.std.proofs.Math.Nat.{mod-eq_of_lt}
-use Rattle.sg_apery.specs.Classes.{IsAboveEntry, IsClassList, IsKunz}
-use Rattle.sg_apery.proofs.AperyLemmas.{congruent-split}
-use Rattle.sg_apery.proofs.DerivedLemmas.{kunz-from_closed}
+use Rattle.sg_classes.specs.Classes.{IsAboveEntry, IsClassList, IsKunz}
+use Rattle.sg_classes.proofs.AperyLemmas.{congruent-split}
+use Rattle.sg_classes.proofs.KunzLemmas.{kunz-from_closed}
 use Rattle.sg_closure.specs.Marks.{IsIn, IsLeastIn, AreLeastIn}
 
 -- a test of a mark, read at another default
@@ -17,9 +17,11 @@ in-true marks n l e = get_or_default marks n true false l ∙ e
 pub true-in : (marks : List Bool) (n : ℕ) → n < length marks → IsIn marks n → get_or marks n false ≡ true
 true-in marks n l h = get_or_default marks n false true l ∙ h
 
+-- what is not marked is outside
 pub out-false : (marks : List Bool) (n : ℕ) → n < length marks → get_or marks n false ≡ false → IsIn marks n → ⊥
 out-false marks n l e h = both_ways (get_or marks n false) e (true-in marks n l h)
 
+-- what is past the marks is inside
 pub in-past : (marks : List Bool) (n : ℕ) → length marks ≤ n → IsIn marks n
 in-past marks n l = get_or_past marks n true l
 
@@ -27,6 +29,7 @@ told : (b : Bool) → (b ≡ true) ⊎ (b ≡ true → ⊥)
 told true = inl refl
 told false = inr (λ e. both_ways false refl e)
 
+-- each number is inside or outside
 pub in-decided : (marks : List Bool) (n : ℕ) → IsIn marks n ⊎ (IsIn marks n → ⊥)
 in-decided marks n = told (get_or marks n true)
 
@@ -47,6 +50,7 @@ marks-push Q marks b n long before here k l = elim (cases_lt k n) [
 pub in-set : (marks : List Bool) (n : ℕ) (b : Bool) → n < length marks → IsIn (set marks n b) n ↔ (b ≡ true)
 in-set marks n b l = let e = get_or-set_same marks n b true l in ((λ p. sym e ∙ p), (λ q. e ∙ q))
 
+-- setting one mark leaves the others
 pub in-set_other : (marks : List Bool) (n k : ℕ) (b : Bool) → k ≢ n → IsIn (set marks n b) k ↔ IsIn marks k
 in-set_other marks n k b other = let e = get_or-set_other marks n k b true other in ((λ p. sym e ∙ p), (λ q. e ∙ q))
 
@@ -66,6 +70,7 @@ next-class m n k positive e l = let s = congruent-split m n k positive e (omega 
 pub class-begins : (m i k : ℕ) → i < m → k % m ≡ i → k < i → ⊥
 class-begins m i k l e less = let h : k < m = omega arith in omega (arith, mod-eq_of_lt h, e)
 
+-- the next number of a class, where this one is outside
 pub class-passes : (marks : List Bool) (m i n : ℕ) → 0 < m → n % m ≡ i → ((k : ℕ) → k % m ≡ i → k < n → IsIn marks k → ⊥) → (IsIn marks n → ⊥) →
     (k : ℕ) → k % m ≡ i → k < n + m → IsIn marks k → ⊥
 class-passes marks m i n positive residue before out k e l p = elim (cases_lt k n) [
@@ -76,6 +81,7 @@ class-passes marks m i n positive residue before out k e l p = elim (cases_lt k 
   ]
 ]
 
+-- what is outside is not past the marks
 pub out-below : (marks : List Bool) (n : ℕ) → (IsIn marks n → ⊥) → n < length marks
 out-below marks n out = elim (cases_lt n (length marks)) [ inl less ↦ less | inr more ↦ absurd (out (in-past marks n more)) ]
 
@@ -102,11 +108,13 @@ module _ (marks : List Bool) (m : ℕ) (list : List ℕ) (positive : 0 < m) (h :
         subst (IsIn marks) (sym s.1) (turns-in s.0 (get_or list (n % m) 0) (entry n).inside)),
   )
 
+  -- the least numbers of the classes tell the set
   pub in-above_entry : (n : ℕ) → IsIn marks n ↔ IsAboveEntry list n
   in-above_entry n =
       let e = ap (λ k. get_or list (n % k) 0) h.long in
       ((λ p. omega (arith, e, (in-above n).0 p)), (λ l. (in-above n).1 (omega (arith, e, l))))
 
+  -- they are an Apery list
   pub marks-kunz : IsKunz list
   marks-kunz = kunz-from_closed (IsIn marks) list classes in-above_entry sums
     where

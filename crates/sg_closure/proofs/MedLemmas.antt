@@ -7,9 +7,9 @@ use Rattle.std.proofs.Math.Nat.{mod_self, mod-eq_of_lt, add-mod_right}
 use Rattle.sg_defs.specs.Membership.{IsMember, IsNumericalSemigroup, IsMinimal, IsMultiplicity}
 use Rattle.sg_defs.specs.Closures.{IsMed}
 use Rattle.sg_defs.proofs.MembershipLemmas.{member-add, member-entry, member-times}
-use Rattle.sg_apery.proofs.AperyLemmas.{congruent-split}
-use Rattle.sg_apery.proofs.GeneratorLemmas.{member-split}
-use Rattle.sg_apery.proofs.ResidueLemmas.{member-residue}
+use Rattle.sg_classes.proofs.AperyLemmas.{congruent-split}
+use Rattle.sg_classes.proofs.GeneratorLemmas.{member-split}
+use Rattle.sg_classes.proofs.ResidueLemmas.{member-residue}
 use Rattle.sg_closure.proofs.CoverLemmas.{IsShuffle, shuffle-covers, different-few}
 use Rattle.sg_defs.proofs.MinimalLemmas.{first-multiplicity, no_sum}
 use Rattle.sg_defs.proofs.OneLemmas.{one-multiplicity}

@@ -8,19 +8,17 @@ use Rattle.std.proofs.lemmas.List.{get_or-take, length-take-le}
 use Rattle.std.proofs.lemmas.List.Elements.{All-cons, All-from_get_or}
 use Rattle.std.proofs.lemmas.List.Kept.{AllPairs-from_increasing}
 use Rattle.std.proofs.lemmas.Nat.Gcd.{dvd-zero, mod-eq-zero_of_dvd}
-use Rattle.std.proofs.Math.Nat.{dvd-add, dvd-sub, mod-add-div}
+use Rattle.std.proofs.Math.Nat.{dvd-add, dvd-sub, mod-add-div, eq-zero_of_zero-dvd}
 use Rattle.sg_defs.specs.Membership.{IsMember, IsNumericalSemigroup, IsMinimal, Generates, Holds}
 use Rattle.sg_defs.specs.Closures.{IsSaturated, IsSaturatedClosure, integer_value_of}
 use Rattle.sg_defs.proofs.MembershipLemmas.{member-zero, member-entry, member-induction}
-use Rattle.sg_apery.proofs.ResidueLemmas.{IsReached}
-use Rattle.sg_apery.proofs.EntryLemmas.{first-least}
-use Rattle.sg_apery.proofs.GeneratorLemmas.{contains-place, place-contains, member-divides}
+use Rattle.sg_classes.proofs.ResidueLemmas.{IsReached, reached-times, divisor-reached}
+use Rattle.sg_defs.proofs.MinimalLemmas.{first-least}
+use Rattle.sg_classes.proofs.GeneratorLemmas.{contains-place, place-contains, member-divides}
 use Rattle.sg_closure.specs.Marks.{IsIn, IsAbove, AreGeneratorMarks}
 use Rattle.sg_closure.specs.Saturation.{IsInSaturation}
 use Rattle.sg_closure.proofs.MarkLemmas.{in-past}
-use Rattle.sg_closure.proofs.ReachedLemmas.{reached-times, divisor-reached}
 use Rattle.sg_closure.proofs.CombinationLemmas.{combination-divides, combination-made}
-use Rattle.sg_closure.proofs.SaturationLemmas.{zero-divides}
 
 -- the last of the first b entries that is at most n
 abbrev IsLastLow : List ℕ → ℕ → ℕ → ℕ → Type 0
@@ -51,12 +49,14 @@ module _ (G : List ℕ) (s : IsNumericalSemigroup G) (minimal : IsMinimal G) whe
   positive : 0 < get_or G 0 0
   positive = omega (arith, s.positive 0 0 s.not_empty)
 
+  -- the saturation has the sums of its numbers
   pub saturation-sums : (a b : ℕ) → IsInSaturation G a → IsInSaturation G b → IsInSaturation G (a + b)
   saturation-sums a b (inl e) k = subst (IsInSaturation G) (let f : b ≡ a + b = omega arith in f) k
   saturation-sums a b (inr h) (inl e) = subst (IsInSaturation G) (let f : a ≡ a + b = omega arith in f) (inr h)
   saturation-sums a b (inr h) (inr k) =
       inr (omega (arith, h.0), λ d all. dvd-add d (h.1 d (λ g c l. all g c (omega arith))) (k.1 d (λ g c l. all g c (omega arith))))
 
+  -- and all members
   pub saturation-holds : (n : ℕ) → IsMember G n → IsInSaturation G n
   saturation-holds = member-induction (IsInSaturation G) G (inl (let e : 0 ≡ 0 = omega arith in e))
       (λ i n l p. saturation-sums n (get_or G i 0) p
@@ -67,12 +67,13 @@ module _ (G : List ℕ) (s : IsNumericalSemigroup G) (minimal : IsMinimal G) whe
   divides-lower d n t l all (inl e) = subst (λ x. d ∣ x) (sym e) (dvd-zero d)
   divides-lower d n t l all (inr h) = h.1 d (λ g c m. all g c (omega arith))
 
+  -- it is saturated
   pub saturation-saturated : (n : ℕ) (ss : List ℕ) (zs : List ℤ) (r : ℕ) → IsInSaturation G n → ((i : ℕ) → i < length ss → IsInSaturation G (get_or ss i 0) × (get_or ss i 0 ≤ n)) →
       integer_value_of ss zs ≡ pos r → IsInSaturation G (n + r)
   saturation-saturated n ss zs r (inl e) h f =
       let none : 0 ∣ r = combination-divides 0 ss zs r
       (λ i l. let low = (h i l).1 in let g : 0 ≡ get_or ss i 0 = omega (arith, e, low) in subst (λ x. 0 ∣ x) g (dvd-zero 0)) f in
-      inl (omega (arith, e, zero-divides r none))
+      inl (omega (arith, e, eq-zero_of_zero-dvd none))
   saturation-saturated n ss zs r (inr k) h f =
       inr (
         omega (arith, k.0),
@@ -121,6 +122,7 @@ module _ (G : List ℕ) (s : IsNumericalSemigroup G) (minimal : IsMinimal G) whe
           (All-cons (λ t. IsMember K t × (t ≤ get_or G k 0)) (get_or G 0 0) part (above (get_or G 0 0) (member-entry G 0 s.not_empty), entry-low 0 (omega arith))
           (All-from_get_or (λ t. IsMember K t × (t ≤ get_or G k 0)) part 0 held)) z.1 z.2)
 
+    -- each saturated semigroup above has its numbers
     pub saturation-least : (n : ℕ) → IsInSaturation G n → IsMember K n
     saturation-least n (inl e) = subst (IsMember K) (sym e) (member-zero K)
     saturation-least n (inr h) =
@@ -143,12 +145,14 @@ module _ (G : List ℕ) (s : IsNumericalSemigroup G) (minimal : IsMinimal G) whe
           )
     ]
 
+    -- marks that tell it are closed under sums, and hold the given semigroup
     pub saturation-above : IsAbove G marks
     saturation-above = record {
       sums = λ a b p q. (in-saturation (a + b)).1 (saturation-sums a b ((in-saturation a).0 p) ((in-saturation b).0 q));
       holds = λ n p. (in-saturation n).1 (saturation-holds n p);
     }
 
+    -- their semigroup is the saturated closure
     pub saturation-closure : (M : List ℕ) → Generates (IsIn marks) M → IsSaturatedClosure G M
     saturation-closure M g = record {
       semigroup = g.semigroup;

@@ -6,10 +6,10 @@ use Rattle.std.specs.Int.{◌∣◌, IsGcd}
 use Rattle.std.proofs.lemmas.Bool.{cases_lt, cases_eq}
 use Rattle.std.proofs.lemmas.List.{length-set}
 use Rattle.std.proofs.lemmas.Nat.Gcd.{dvd_refl, dvd-zero, dvd_trans, dvd_of_mod-eq-zero, mod-eq-zero_of_dvd}
-use Rattle.std.proofs.Math.Nat.{mod-zero}
+use Rattle.std.proofs.Math.Nat.{eq-zero_of_zero-dvd}
 use Rattle.sg_defs.specs.Membership.{IsNumericalSemigroup, IsMinimal}
-use Rattle.sg_apery.proofs.EntryLemmas.{first-least}
-use Rattle.sg_apery.proofs.GeneratorLemmas.{contains-place, place-contains}
+use Rattle.sg_defs.proofs.MinimalLemmas.{first-least}
+use Rattle.sg_classes.proofs.GeneratorLemmas.{contains-place, place-contains}
 use Rattle.sg_closure.specs.Marks.{IsIn, AreGeneratorMarks}
 use Rattle.sg_closure.specs.Saturation.{DividesBelow, IsInSaturation}
 use Rattle.sg_closure.proofs.MarkLemmas.{in-decided, in-set, in-set_other}
@@ -21,10 +21,6 @@ pub record IsSifted (G : List ℕ) (before marks : List Bool) (divisor n : ℕ) 
   pub below : (k : ℕ) → k < n → k < length before → IsIn marks k ↔ IsInSaturation G k
   pub above : (k : ℕ) → n ≤ k → IsIn marks k ↔ IsIn before k
 
--- 0 divides only 0
-pub zero-divides : (n : ℕ) → 0 ∣ n → n ≡ 0
-zero-divides n h = sym (mod-zero n) ∙ mod-eq-zero_of_dvd 0 h
-
 module _ (G : List ℕ) (s : IsNumericalSemigroup G) (minimal : IsMinimal G) (before : List Bool) (start : AreGeneratorMarks G before) where
   positive : 0 < get_or G 0 0
   positive = omega (arith, s.positive 0 0 s.not_empty)
@@ -32,6 +28,7 @@ module _ (G : List ℕ) (s : IsNumericalSemigroup G) (minimal : IsMinimal G) (be
   least : (g : ℕ) → Contains G g → get_or G 0 0 ≤ g
   least g h = let p = contains-place G g h in omega (arith, first-least G minimal.ascending p.0 p.1, p.2)
 
+  -- before the multiplicity nothing is to do
   pub sifted-begins : IsSifted G before before 0 (get_or G 0 0)
   sifted-begins = record {
     long = omega arith;
@@ -69,11 +66,12 @@ module _ (G : List ℕ) (s : IsNumericalSemigroup G) (minimal : IsMinimal G) (be
           )
     ]
 
+    -- the divisor is above 0 from the multiplicity on
     pub next-positive : 0 < next
     next-positive = elim (cases_eq next 0) [
       | inl e ↦
           let p = (next-common next).0 (dvd_refl next) (get_or G 0 0) (place-contains G 0 s.not_empty) (omega arith) in
-          absurd (omega (arith, positive, zero-divides (get_or G 0 0) (subst (λ d. d ∣ get_or G 0 0) e p)))
+          absurd (omega (arith, positive, eq-zero_of_zero-dvd (subst (λ d. d ∣ get_or G 0 0) e p)))
       | inr other ↦ omega arith
     ]
 
@@ -86,6 +84,7 @@ module _ (G : List ℕ) (s : IsNumericalSemigroup G) (minimal : IsMinimal G) (be
       ]),
     )
 
+    -- one more number
     pub sifted-steps : IsSifted G before (set marks n (nat_eq (n % next) 0)) next (n + 1)
     sifted-steps = record {
       long = length-set marks n (nat_eq (n % next) 0) ∙ h.long;

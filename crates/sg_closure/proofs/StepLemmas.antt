@@ -51,6 +51,7 @@ module _ (P : ℕ → Type 0) (decided : (n : ℕ) → P n ⊎ (P n → ⊥)) wh
       ]
     ]
 
+    -- a set with all steps between neighbours has x + y - z for all its x, y and z
     pub arf-from_steps : (x y z : ℕ) → z ≤ x → z ≤ y → P x → P y → P z → P (x + y - z)
     arf-from_steps x y z p q in_x in_y in_z = arf-above c z x y (omega arith) in_z p q in_x in_y
 
@@ -64,6 +65,7 @@ pub record IsMarking (before marks : List Bool) (last n : ℕ) : Type 0 where
   pub steps : (z y : ℕ) → z < y → y < n → IsIn marks z → IsIn marks y → ((k : ℕ) → z < k → k < y → IsIn marks k → ⊥) → IsIn marks (y + y - z)
   pub least : (K : List ℕ) → IsArf K → ((k : ℕ) → IsIn before k → IsMember K k) → (k : ℕ) → IsIn marks k → IsMember K k
 
+-- at the start 0 alone was gone through
 pub marking-begins : (marks : List Bool) → IsIn marks 0 → IsMarking marks marks 0 1
 marking-begins marks zero_in = record {
   long = omega arith;

@@ -5,7 +5,7 @@ use Rattle.std.specs.Str.{bytes_eq}
 use Rattle.std.proofs.lemmas.Slice.Eq.{bytes_eq-Decides}
 use Rattle.sg_defs.specs.Membership.{IsMember, IsNumericalSemigroup, IsMinimal}
 use Rattle.sg_defs.specs.Closures.{IsLeast}
-use Rattle.sg_apery.proofs.OneListLemmas.{one-minimal_list}
+use Rattle.sg_classes.proofs.OneListLemmas.{one-minimal_list}
 
 module _ (P : List ℕ → Type 0) (G H : List ℕ) (s : IsNumericalSemigroup G) (minimal : IsMinimal G) (minimal_closure : IsMinimal H) (closure : IsLeast P G H) where
   own-closure : (H ≡ G) ↔ P G

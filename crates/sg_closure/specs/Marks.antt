@@ -1,12 +1,7 @@
 -- Sets of naturals by marks: a number is in the set where it is marked or past the marks.
 use Rattle.std.specs.Prelude.{◌≡◌, ℕ, ◌+◌, ◌%◌, ◌<◌, ◌≤◌, ◌⊎◌, Bool, true, List, length, slice_index, slice_index_or, Contains}
 use Rattle.sg_defs.specs.Membership.{IsMember}
-use Rattle.sg_apery.specs.Fit.{IsSpan}
-use Rattle.sg_apery.specs.Limits.{SPAN_LIMIT}
-
--- the span is within the limit
-abbrev pub IsShort : List ℕ → Type 0
-IsShort G = (s : ℕ) × IsSpan G s × (s ≤ SPAN_LIMIT)
+use Rattle.sg_classes.specs.declared.limits.TheConstants.{SPAN_LIMIT}
 
 -- n is marked or past the marks
 abbrev pub IsIn : List Bool → ℕ → Type 0

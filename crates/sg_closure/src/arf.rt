@@ -3,7 +3,8 @@
 ghost use Rattle.std.specs.Prelude.{◌≡◌, ◌+◌, ◌<◌, ◌≤◌, ◌↔◌, ℕ, List, length, IfOk, IsTrue};
 ghost use Rattle.sg_defs.specs.Membership.{IsMember};
 ghost use Rattle.sg_defs.specs.Closures.{IsArf, IsArfClosure};
-ghost use Rattle.sg_closure.specs.Marks.{IsIn, IsShort};
+ghost use Rattle.sg_closure.specs.Marks.{IsIn};
+ghost use Rattle.sg_lawful.specs.Spans.{IsShort};
 ghost use Rattle.sg_closure.specs.Steps.{HasSteps};
 
 use crate::marks::{generator_marks, mark, marked_table};

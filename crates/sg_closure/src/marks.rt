@@ -2,7 +2,8 @@
 
 ghost use Rattle.std.specs.Prelude.{◌≡◌, ◌+◌, ◌<◌, ◌≤◌, ◌⊎◌, ◌↔◌, ℕ, length, slice_index, Contains, EachIndex, IfOk, IsTrue};
 ghost use Rattle.sg_defs.specs.Membership.{Generates};
-ghost use Rattle.sg_closure.specs.Marks.{AreGeneratorMarks, AreLeastIn, IsAbove, IsIn, IsLeastIn, IsShort};
+ghost use Rattle.sg_closure.specs.Marks.{AreGeneratorMarks, AreLeastIn, IsAbove, IsIn, IsLeastIn};
+ghost use Rattle.sg_lawful.specs.Spans.{IsShort};
 
 use sg_apery::{MULTIPLICITY_LIMIT, SPAN_LIMIT, Table, TableFault};
 use std::alloc::{AllocError, Global};

@@ -3,9 +3,10 @@
 ghost use Rattle.std.specs.Prelude.{◌≡◌, ◌+◌, ◌<◌, ◌≤◌, ◌↔◌, ℕ, length, slice_index, EachIndex, IfOk, IsTrue};
 ghost use Rattle.sg_defs.specs.Membership.{Holds, IsMember, IsMinimal, IsNumericalSemigroup};
 ghost use Rattle.sg_defs.specs.Closures.{IsMed, IsMedClosure};
-ghost use Rattle.sg_closure.specs.Marks.{IsIn, IsShort};
+ghost use Rattle.sg_closure.specs.Marks.{IsIn};
+ghost use Rattle.sg_lawful.specs.Spans.{IsShort};
 ghost use Rattle.sg_closure.specs.Differences.{AreDifferences, GeneratesDifferences, IsDifference, IsShifted};
-ghost use Rattle.sg_apery.specs.Fit.{IsFit};
+ghost use Rattle.sg_classes.specs.Fit.{IsFit};
 
 use crate::marks::marked_table;
 use sg_apery::{SPAN_LIMIT, Table, TableFault};

@@ -3,7 +3,8 @@
 ghost use Rattle.std.specs.Prelude.{◌≡◌, ◌+◌, ◌<◌, ◌≤◌, ◌↔◌, ℕ, length, IfOk, IsTrue};
 ghost use Rattle.sg_defs.specs.Membership.{IsMinimal, IsNumericalSemigroup};
 ghost use Rattle.sg_defs.specs.Closures.{IsSaturated, IsSaturatedClosure};
-ghost use Rattle.sg_closure.specs.Marks.{AreGeneratorMarks, IsIn, IsShort};
+ghost use Rattle.sg_closure.specs.Marks.{AreGeneratorMarks, IsIn};
+ghost use Rattle.sg_lawful.specs.Spans.{IsShort};
 ghost use Rattle.sg_closure.specs.Saturation.{IsInSaturation};
 ghost use Rattle.std.specs.Int.{IsGcd};
 

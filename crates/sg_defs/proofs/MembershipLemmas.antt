@@ -6,9 +6,11 @@ use Rattle.sg_defs.specs.Vectors.{value_of, plus}
 use Rattle.sg_defs.specs.Membership.{IsMember, IsIntegerMember, Holds}
 use Rattle.sg_defs.proofs.VectorLemmas.{length-plus, value_of-plus, value_of-zeros, value_of-set}
 
+-- 0 is a member
 pub member-zero : (G : List ℕ) → IsMember G 0
 member-zero G = (replicate (length G) 0, record { places = length-replicate (length G) 0; value = value_of-zeros G (length G) })
 
+-- sums of members are members
 pub member-add : (G : List ℕ) (a b : ℕ) → IsMember G a → IsMember G b → IsMember G (a + b)
 member-add G a b p q = (
   plus p.0 q.0,
@@ -30,6 +32,7 @@ member-entry G i h =
       },
     )
 
+-- so are multiples
 pub member-times : (G : List ℕ) (k a : ℕ) → IsMember G a → IsMember G (k * a)
 member-times G zero a p = subst (IsMember G) (let e : 0 ≡ 0 * a = omega arith in e) (member-zero G)
 member-times G (suc k) a p =

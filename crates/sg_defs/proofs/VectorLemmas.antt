@@ -2,11 +2,13 @@
 use Rattle.std.proofs.Common.{◌≡◌, ℕ, zero, suc, ◌+◌, ◌<◌, List, [], ◌∷◌, length, get_or, replicate, set, refl, sym, ap, arith}
 use Rattle.sg_defs.specs.Vectors.{value_of, plus}
 
+-- a sum has as many places
 pub length-plus : (x y : List ℕ) → length x ≡ length y → length (plus x y) ≡ length x
 length-plus [] y h = refl
 length-plus (a ∷ x) [] h = sym h
 length-plus (a ∷ x) (b ∷ y) h = let k : length x ≡ length y = omega arith in ap suc (length-plus x y k)
 
+-- its value is the sum of the values
 pub value_of-plus : (g x y : List ℕ) → length x ≡ length g → length y ≡ length g → value_of g (plus x y) ≡ value_of g x + value_of g y
 value_of-plus [] x y h k = refl
 value_of-plus (a ∷ g) [] y h k = absurd (omega arith)

@@ -3,6 +3,11 @@ use Rattle.std.specs.Prelude.{◌≡◌, ◌≢◌, ℕ, zero, suc, ℤ, pos, �
 use Rattle.sg_defs.specs.Membership.{IsIntegerMember}
 use Rattle.sg_defs.specs.Invariants.{IsFrobenius}
 
+-- a relative ideal by the minimal lists of its ambient semigroup and of its own generators
+pub record RelativeIdeal : Type 0 where
+  pub ambient : List ℕ
+  pub generators : List ℤ
+
 -- x is a generator and a member of the ambient semigroup
 abbrev pub IsIdealMember : List ℕ → List ℤ → ℤ → Type 0
 IsIdealMember G I x = (g : ℤ) × Contains I g × IsIntegerMember G (x -ℤ g)

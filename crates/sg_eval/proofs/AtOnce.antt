@@ -17,14 +17,14 @@ use Rattle.sg_tree.specs.declared.expr.Op.{Op}
 use Rattle.sg_tree.specs.declared.expr.Op.TheVariants.{Or, And, Plus, Less, Times, Mod}
 use Rattle.sg_tree.specs.declared.expr.Rel.{Rel}
 use Rattle.sg_eval.specs.AtOnce.{GivesInteger, GivesTruth, Calculates, Compares}
-use Rattle.sg_eval.specs.Expressions.{eval, eval_links, ask, relation}
+use Rattle.sg_meaning.specs.Expressions.{eval, eval_links, ask, relation}
 use Rattle.sg_eval.specs.Linked.{arithmetic, ends_chain, linked, compared_with}
 use Rattle.sg_eval.specs.Outcomes.{Evaluates, plain_of, known_of}
-use Rattle.sg_eval.specs.Process.{Process, gives, ◌>>=◌}
-use Rattle.sg_eval.specs.Queries.{combines}
+use Rattle.sg_meaning.specs.Process.{Process, gives, ◌>>=◌}
+use Rattle.sg_meaning.specs.Queries.{combines}
 use Rattle.sg_eval.specs.State.{State, AreKnownIn}
 use Rattle.sg_eval.specs.Truths.{itself, no_semigroup}
-use Rattle.sg_eval.specs.Vars.{Vars, with_value}
+use Rattle.sg_meaning.specs.Vars.{Vars, with_value}
 use Rattle.sg_eval.proofs.Borrowed.{copied}
 use Rattle.sg_eval.proofs.Evaluating.{keeps_all, evaluates_as, evaluates_gives, evaluates_then}
 use Rattle.sg_eval.proofs.Steps.{link_then, linked_combines}

@@ -1,27 +1,29 @@
 -- Blocks, arms, loops and whole statements, piece by piece.
 use Rattle.std.proofs.Common.{◌≡◌, ◌<◌, ◌+◌, ℕ, List, [], length, get_or, drop, Bool, true, false, Option, Some, None, Vec, Global, refl, ap, sym, ◌∙◌}
 use Rattle.sg_value.specs.Plain.{Things}
-use Rattle.std.specs.Prelude.{if◌then◌else◌, codes}
-use Rattle.std.specs.Str.{bytes_eq}
+use Rattle.std.specs.Prelude.{if◌then◌else◌}
 use Rattle.std.proofs.Math.Path.{fun_ext}
 use Rattle.std.proofs.lemmas.List.{drop_more}
 use Rattle.sg_value.specs.Data.{Items, truth, int, text, list, fail, semigroup, ideal}
 use Rattle.sg_rows.specs.Kinds.{as_list}
 use Rattle.sg_rows.specs.Order.{Plain}
+use Rattle.sg_calls.specs.Commands.{word_named}
 use Rattle.sg_tree.specs.Tree.{Tree, number, quoted, truth as truth_tree, failing, variable, call, display, span, item as item_tree, minus, negation, chain, compare, Arguments, Code, nothing, quit, assign, choose, each, perform, Arms, no_arms, arm, Block, code}
 use Rattle.sg_tree.specs.TreeView.{tree_of, code_of, block_of, arms_of}
 use Rattle.sg_tree.specs.declared.expr.Expr.{Expr}
 use Rattle.sg_tree.specs.declared.stmt.Stmt.{Stmt}
-use Rattle.sg_eval.specs.Expressions.{eval, eval_given, decided, listed}
-use Rattle.sg_eval.specs.Process.{Process, gives, sets, ◌>>=◌}
-use Rattle.sg_eval.specs.Statements.{on, ended, exec, exec_all, exec_arms, over, done, call_done, printed, whole}
+use Rattle.sg_meaning.specs.Expressions.{eval, eval_given, decided, listed}
+use Rattle.sg_meaning.specs.Process.{Process, gives, sets, ◌>>=◌}
+use Rattle.sg_meaning.specs.Statements.{on, ended, exec, exec_all, exec_arms, over, done, is_print, call_done, printed, whole}
 use Rattle.sg_eval.specs.Steps.{arm_done, held, listed_of, is_quit, printing, printed_arguments}
-use Rattle.sg_eval.proofs.Deciding.{assoc, decided_bind}
-use Rattle.sg_eval.proofs.Steps.{right_unit}
+use Rattle.sg_meaning.proofs.Sequels.{assoc, right_unit}
+use Rattle.sg_eval.proofs.Deciding.{decided_bind}
 
+-- the statements from one on
 pub block_of-drop : (ss : List Stmt) (i : ℕ) (c : Stmt) → i < length ss → c ≡ get_or ss i c → block_of (drop i ss) ≡ code (code_of c) (block_of (drop (i + 1) ss))
 block_of-drop ss i c within is = ap block_of (drop_more ss i c within) ∙ ap (λ x. code (code_of x) (block_of (drop (i + 1) ss))) (sym is)
 
+-- the arms from one on
 pub arms_of-drop : (gs : List (Expr × Vec Stmt Global)) (i : ℕ) (g : Expr × Vec Stmt Global) → i < length gs → g ≡ get_or gs i g → arms_of (drop i gs) ≡ arm (tree_of g.0) (block_of g.1.items) (arms_of (drop (i + 1) gs))
 arms_of-drop gs i g within is = ap arms_of (drop_more gs i g within) ∙ ap (λ x. arm (tree_of x.0) (block_of x.1.items) (arms_of (drop (i + 1) gs))) (sym is)
 
@@ -63,8 +65,9 @@ each_step x t body =
 some-same : (a b : Arguments) → Some a ≡ Some b → a ≡ b
 some-same a b h = cc
 
+-- a call of Print is done as such
 pub done_printed : (t : Tree) (args : Arguments) → printed_arguments t ≡ Some args → eval_given [] args >>= printed ≡ done t
-done_printed (call name given) args is = by_name (bytes_eq name (codes "Print")) is
+done_printed (call name given) args is = by_name (is_print (word_named name)) is
   where
     by_name : (b : Bool) → printing b given ≡ Some args → eval_given [] args >>= printed ≡ call_done b name given
     by_name true h = ap (λ x. eval_given [] x >>= printed) (sym (some-same given args h))
@@ -82,8 +85,9 @@ done_printed (negation n t) args is = absurd (cc)
 done_printed (chain t ls) args is = absurd (cc)
 done_printed (compare r left right) args is = absurd (cc)
 
+-- any other expression is computed and dropped
 pub done_dropped : (t : Tree) → printed_arguments t ≡ None → eval [] t >>= (λ d. gives tt) ≡ done t
-done_dropped (call name given) is = by_name (bytes_eq name (codes "Print")) is
+done_dropped (call name given) is = by_name (is_print (word_named name)) is
   where
     by_name : (b : Bool) → printing b given ≡ None → eval [] (call name given) >>= (λ d. gives tt) ≡ call_done b name given
     by_name true h = absurd (cc)
@@ -110,6 +114,7 @@ whole_on (choose guarded other) is = refl
 whole_on (each x t body) is = refl
 whole_on (perform t) is = refl
 
+-- the statement that ends the run
 pub whole_ended : (c : Code) → is_quit c ≡ true → gives ended ≡ whole c
 whole_ended nothing is = absurd (cc)
 whole_ended quit is = refl

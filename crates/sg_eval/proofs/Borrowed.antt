@@ -12,35 +12,39 @@ use Rattle.sg_rows.specs.declared.fault.Fault.{Fault}
 use Rattle.sg_rows.specs.declared.fault.Fault.TheVariants.{UnknownName}
 use Rattle.std.proofs.lemmas.Result.{err_from_is_err_and}
 use Rattle.sg_store.specs.Interned.{Keeps}
-use Rattle.sg_eval.specs.Expressions.{looked_up, known}
+use Rattle.sg_meaning.specs.Expressions.{looked_up, known}
 use Rattle.sg_eval.specs.Outcomes.{Gives, Evaluates, Finds, plain_of, known_of}
-use Rattle.sg_eval.specs.Process.{Process, gives, ◌>>=◌, Runs}
+use Rattle.sg_meaning.specs.Process.{Process, gives, ◌>>=◌, Runs}
 use Rattle.sg_eval.specs.State.{State, vars_of, values_of, AreKnown, AreKnownIn}
-use Rattle.sg_eval.specs.Vars.{Vars, value_at}
+use Rattle.sg_meaning.specs.Vars.{Vars, value_at}
 use Rattle.sg_eval.specs.declared.variable.Variable.{Variable}
 use Rattle.sg_eval.proofs.Evaluating.{keeps_all, keeps_then, evaluates_then, evaluates_exit, evaluates_as, evaluates_gives}
-use Rattle.sg_eval.proofs.Steps.{right_unit}
+use Rattle.sg_meaning.proofs.Sequels.{right_unit}
 use Rattle.sg_eval.proofs.Later.{parameter_found, variable_found, copy_known, copy_plain}
-use Rattle.sg_eval.proofs.Named.{Entries}
+use Rattle.sg_eval.proofs.Named.{Pairs}
 
 -- the same, of a value and of where it stands
 seen_at : (v : Bor Value) (s : State) (p : Named → Process Plain) → Evaluates plain AllKnown (Ok v.now) s s p → Evaluates plain_of known_of (Ok v) s s p
 seen_at v s p h = record { keeps = h.keeps; variables = h.variables; parameters = h.parameters; is_known = h.is_known; gives = h.gives }
 
+-- a value where it stands is that value
 pub value_at_place : (v : Bor Value) (s : State) (p : Named → Process Plain) → Evaluates plain_of known_of (Ok v) s s p → Evaluates plain AllKnown (Ok v.now) s s p
 value_at_place v s p h = record { keeps = h.keeps; variables = h.variables; parameters = h.parameters; is_known = h.is_known; gives = h.gives }
 
+-- the value of a parameter
 pub parameter_there : (s : State) (x : List ℕ) (ps : List Variable) (v : Bor Value) → s.parameters ≡ vars_of s.names ps → lookup (bytes_eq x) (vars_of s.names ps) ≡ Some (plain (named s.names) v.now)
     → AllKnown (named s.names) v.now → Evaluates plain_of known_of (Ok v) s s (λ names. looked_up (lookup (bytes_eq x) s.parameters) x)
 parameter_there s x ps v params found is_known =
     seen_at v s (λ names. looked_up (lookup (bytes_eq x) s.parameters) x) (parameter_found s x v.now v.now (ap (lookup (bytes_eq x)) params ∙ found) is_known refl)
 
-pub variable_there : (s : State) (x : List ℕ) (ps : List Variable) (es : Entries) (v : Bor Value) → s.parameters ≡ vars_of s.names ps → s.variables ≡ values_of s.names es → lookup (bytes_eq x) (vars_of s.names ps) ≡ None
+-- the value of a variable
+pub variable_there : (s : State) (x : List ℕ) (ps : List Variable) (es : Pairs) (v : Bor Value) → s.parameters ≡ vars_of s.names ps → s.variables ≡ values_of s.names es → lookup (bytes_eq x) (vars_of s.names ps) ≡ None
     → lookup (bytes_eq x) (values_of s.names es) ≡ Some (plain (named s.names) v.now) → AllKnown (named s.names) v.now → Evaluates plain_of known_of (Ok v) s s (λ names. looked_up (lookup (bytes_eq x) s.parameters) x)
 variable_there s x ps es v params vars absent found is_known =
     seen_at v s (λ names. looked_up (lookup (bytes_eq x) s.parameters) x) (variable_found s x v.now v.now (ap (lookup (bytes_eq x)) params ∙ absent) (ap (lookup (bytes_eq x)) vars ∙ found) is_known refl)
 
-pub name_unknown : (s : State) (x : List ℕ) (ps : List Variable) (es : Entries) → s.parameters ≡ vars_of s.names ps → s.variables ≡ values_of s.names es → lookup (bytes_eq x) (vars_of s.names ps) ≡ None
+-- a name that has no value
+pub name_unknown : (s : State) (x : List ℕ) (ps : List Variable) (es : Pairs) → s.parameters ≡ vars_of s.names ps → s.variables ≡ values_of s.names es → lookup (bytes_eq x) (vars_of s.names ps) ≡ None
     → lookup (bytes_eq x) (values_of s.names es) ≡ None → Evaluates plain_of known_of (Err (Script UnknownName)) s s (λ names. looked_up (lookup (bytes_eq x) s.parameters) x)
 name_unknown s x ps es params vars absent missing =
     subst (λ o. Evaluates plain_of known_of (Err (Script UnknownName)) s s (λ names. looked_up o x)) (sym (ap (lookup (bytes_eq x)) params ∙ absent))
@@ -67,6 +71,7 @@ pub look_exit : {Y B : Type 0} (view : Named → Y → B) (known : Named → Y �
     → Evaluates plain_of known_of (Err e) s s p → Evaluates view known r s s (λ names. p names >>= f names)
 look_exit view known r e s p f failed h = evaluates_exit plain_of known_of view known r e s s p f failed h
 
+-- a name that is not found, as a look-up hands it on
 pub finds_exit : (r : Result (Unit {0}) CallFault) (e : CallFault) (s : State) (p : Named → Process Plain) → IsErrAnd r (λ y. y ≡ e) → Evaluates plain_of known_of (Err e) s s p → Finds r s p
 finds_exit r e s p failed h =
     let q = err_from_is_err_and r failed in
@@ -76,10 +81,12 @@ finds_exit r e s p failed h =
     exit (Script d) h = record { keeps = h.keeps; variables = h.variables; parameters = tt; is_known = tt; gives = h.gives }
     exit (Memory m) h = record { keeps = h.keeps; variables = h.variables; parameters = tt; is_known = tt; gives = λ final later. tt }
 
+-- a fault of a look-up, where a copy was wanted
 pub copied_exit : (r : Result Value CallFault) (e : CallFault) (s : State) (p : Named → Process Plain) → IsErrAnd r (λ y. y ≡ e) → Evaluates plain_of known_of (Err e) s s p → Evaluates plain AllKnown r s s p
 copied_exit r e s p failed h =
     evaluates_as plain AllKnown r s s (λ names. p names >>= (λ d. gives d)) p (λ names. right_unit (p names)) (evaluates_exit plain_of known_of plain AllKnown r e s s p (λ names d. gives d) failed h)
 
+-- a copy of a value where it stands
 pub copied : (v : Bor Value) (w : Value) (s : State) (p : Named → Process Plain) → contents w ≡ contents v.now → Evaluates plain_of known_of (Ok v) s s p → Evaluates plain AllKnown (Ok w) s s p
 copied v w s p copy h =
     evaluates_as plain AllKnown (Ok w) s s (λ names. p names >>= (λ d. gives d)) p (λ names. right_unit (p names))
@@ -87,7 +94,7 @@ copied v w s p copy h =
     (evaluates_gives plain AllKnown w s (λ names. plain names v.now) (copy_known (named s.names) v.now w copy h.is_known) (λ final later. copy_plain (named final) v.now w copy)))
 
 -- what is found over a machine
-pub found_over : (r : Result (Bor Value) CallFault) (s : State) (x : List ℕ) (ps qs : List Variable) (es : Entries)
+pub found_over : (r : Result (Bor Value) CallFault) (s : State) (x : List ℕ) (ps qs : List Variable) (es : Pairs)
     → ((s : State) → s.parameters ≡ vars_of s.names qs → s.variables ≡ values_of s.names es → AreKnown s.names qs → AreKnownIn s.names es → Evaluates plain_of known_of r s s (λ names. looked_up (lookup (bytes_eq x) s.parameters) x))
     → qs ≡ ps → s.parameters ≡ vars_of s.names ps → s.variables ≡ values_of s.names es → AreKnown s.names ps → AreKnownIn s.names es → Evaluates plain_of known_of r s s (λ names. looked_up (lookup (bytes_eq x) s.parameters) x)
 found_over r s x ps qs es h same params vars known_ps known_es = h s (subst (λ ws. s.parameters ≡ vars_of s.names ws) (sym same) params) vars (subst (AreKnown s.names) (sym same) known_ps) known_es

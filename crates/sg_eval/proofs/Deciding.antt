@@ -9,22 +9,14 @@ use Rattle.sg_value.specs.declared.value.Value.TheVariants as value
 use Rattle.sg_rows.specs.Order.{Plain}
 use Rattle.sg_rows.specs.declared.fault.CallFault.{CallFault}
 use Rattle.sg_rows.proofs.Replying.{contents-Bool}
-use Rattle.sg_eval.specs.Expressions.{decided, turned}
+use Rattle.sg_meaning.specs.Expressions.{decided, turned}
 use Rattle.sg_eval.specs.Outcomes.{Evaluates}
-use Rattle.sg_eval.specs.Process.{Process, gives, refuses, reads, asks, sets, writes, ◌>>=◌}
+use Rattle.sg_meaning.specs.Process.{Process, gives, refuses, reads, asks, sets, writes, ◌>>=◌}
 use Rattle.sg_eval.specs.State.{State}
 use Rattle.sg_eval.specs.Truths.{itself, no_semigroup}
 use Rattle.sg_eval.proofs.Evaluating.{evaluates_then, evaluates_exit, evaluates_gives, evaluates_as}
 
--- what comes after the second piece comes after both
-pub assoc : {A B C : Type 0} (p : Process A) (f : A → Process B) (g : B → Process C) → (p >>= f) >>= g ≡ p >>= (λ a. f a >>= g)
-assoc (gives a) f g = refl
-assoc (refuses e) f g = refl
-assoc (reads x k) f g = ap (reads x) (fun_ext (λ o. assoc (k o) f g))
-assoc (asks q k) f g = ap (asks q) (fun_ext (λ r. assoc (k r) f g))
-assoc (sets x d p) f g = ap (sets x d) (assoc p f g)
-assoc (writes bs p) f g = ap (writes bs) (assoc p f g)
-
+-- a truth value, handed on
 pub decided_bind : {A : Type 0} (d : Plain) (f : Bool → Process A) → decided d (λ b. gives b) >>= f ≡ decided d f
 decided_bind (truth b) f = refl
 decided_bind (int z) f = refl
@@ -59,12 +51,14 @@ not_not : (b : Bool) → not (not b) ≡ b
 not_not true = refl
 not_not false = refl
 
+-- turned an even number of times
 pub turned_even : (n k : ℕ) (b : Bool) → n ≡ k + k → turned n b ≡ b
 turned_even zero k b is = refl
 turned_even (suc zero) k b is = absurd (omega (arith, is))
 turned_even (suc (suc m)) zero b is = absurd (omega (arith, is))
 turned_even (suc (suc m)) (suc k) b is = turned_even m k (not (not b)) (omega (arith, is)) ∙ not_not b
 
+-- turned an odd number of times
 pub turned_odd : (n k : ℕ) (b : Bool) → n ≡ suc (k + k) → turned n b ≡ not b
 turned_odd zero k b is = absurd (omega (arith, is))
 turned_odd (suc m) k b is = turned_even m k (not b) (omega (arith, is))

@@ -10,20 +10,22 @@ use Rattle.sg_value.specs.declared.value.Value.{Value}
 use Rattle.sg_store.specs.Interned.{Keeps}
 use Rattle.sg_rows.specs.declared.fault.CallFault.{CallFault}
 use Rattle.sg_rows.specs.declared.fault.CallFault.TheVariants.{Script, Memory}
-use Rattle.sg_eval.specs.Process.{Process, gives, ◌>>=◌, Runs}
+use Rattle.sg_meaning.specs.Process.{Process, gives, ◌>>=◌, Runs}
 use Rattle.sg_eval.specs.Outcomes.{Gives, Evaluates}
 use Rattle.sg_value.proofs.OneStore.{data_map-kept}
 use Rattle.sg_rows.specs.Order.{Reply, Case, IsReply}
 use Rattle.sg_rows.specs.Replies.{Replies}
-use Rattle.sg_eval.specs.Queries.{Query, IsAnswer}
-use Rattle.sg_eval.specs.Expressions.{ask}
+use Rattle.sg_meaning.specs.Queries.{Query, IsAnswer}
+use Rattle.sg_meaning.specs.Expressions.{ask}
 use Rattle.sg_eval.specs.State.{State}
-use Rattle.sg_eval.specs.Vars.{Vars}
-use Rattle.sg_eval.proofs.Runs.{runs_then, runs_refused}
+use Rattle.sg_meaning.specs.Vars.{Vars}
+use Rattle.sg_meaning.proofs.Runs.{runs_then, runs_refused}
 
+-- what two stores in a row keep
 pub keeps_then : (a b c : Known) → Keeps a b → Keeps b c → Keeps a c
 keeps_then a b c h g = λ k i thing is. g k i thing (h k i thing is)
 
+-- a store keeps itself
 pub keeps_all : (a : Known) → Keeps a a
 keeps_all a = λ k i thing is. is
 
@@ -86,15 +88,18 @@ evaluates_gives view known y s b is same = record { keeps = keeps_all s.names; v
 pub known_later : (a b : Known) (v : Value) → Keeps a b → AllKnown (named a) v → AllKnown (named b) v
 known_later a b v kept known = (data_map-kept (named a) (named b) kept (contents v) known).0
 
+-- the plain value over a later store
 pub plain_later : (a b : Known) (v : Value) → Keeps a b → AllKnown (named a) v → plain (named b) v ≡ plain (named a) v
 plain_later a b v kept known = (data_map-kept (named a) (named b) kept (contents v) known).1
 
+-- values that are known stay known
 pub all_known_later : (a b : Known) (vs : List Value) → Keeps a b → AllKnownIn (named a) vs → AllKnownIn (named b) vs
 all_known_later a b vs kept known = (data_map-kept (named a) (named b) kept (list (contents_of_all vs)) known).0
 
 list_injective : {H : Kind → Type 0} (ds es : Items H) → list ds ≡ list es → ds ≡ es
 list_injective ds es h = cc
 
+-- the plain values over a later store
 pub plain_of_all_later : (a b : Known) (vs : List Value) → Keeps a b → AllKnownIn (named a) vs → plain_of_all (named b) vs ≡ plain_of_all (named a) vs
 plain_of_all_later a b vs kept known =
     list_injective (plain_of_all (named b) vs) (plain_of_all (named a) vs) (data_map-kept (named a) (named b) kept (list (contents_of_all vs)) known).1

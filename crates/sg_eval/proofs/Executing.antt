@@ -12,14 +12,15 @@ use Rattle.sg_rows.specs.declared.fault.CallFault.TheVariants as call_fault
 use Rattle.sg_eval.specs.declared.step_fault.StepFault.{StepFault}
 use Rattle.sg_eval.specs.declared.step_fault.StepFault.TheVariants.{Script, Write, Memory}
 use Rattle.sg_eval.specs.Outcomes.{Gives, Evaluates}
-use Rattle.sg_eval.specs.Process.{Process, gives, refuses, sets, writes, ◌>>=◌, Runs, Breaks}
+use Rattle.sg_meaning.specs.Process.{Process, gives, refuses, sets, writes, ◌>>=◌, Runs, Breaks}
 use Rattle.sg_eval.specs.State.{State}
 use Rattle.sg_eval.specs.Steps.{Does, Executed, step_fault, IsOutside}
-use Rattle.sg_eval.specs.Vars.{Vars, with_value}
+use Rattle.sg_meaning.specs.Vars.{Vars, with_value}
 use Rattle.sg_rows.specs.Order.{Plain}
 use Rattle.sg_eval.proofs.Evaluating.{keeps_then, keeps_all}
-use Rattle.sg_eval.proofs.Runs.{runs_then, runs_refused, breaks_first, breaks_then, breaks_in}
+use Rattle.sg_meaning.proofs.Runs.{runs_then, runs_refused, breaks_first, breaks_then, breaks_in}
 
+-- no text more
 pub append_known-nil : (o : Option (List ℕ)) → o ≡ append_known o []
 append_known-nil None = refl
 append_known-nil (Some xs) = ap Some (sym (append-nil xs))
@@ -44,6 +45,7 @@ does_in p f vars vars' t (Script e) g = runs_refused p f vars vars' e t g
 does_in p f vars vars' t Write g = breaks_in p f vars vars' t g
 does_in p f vars vars' t Memory g = breaks_in p f vars vars' t g
 
+-- one piece after another
 pub executed_then : {A B : Type 0} (p : Process A) (f : A → Process B) (a : A) (r : Result B StepFault) (s s1 s2 : State) (o o1 o2 : Option (List ℕ))
     → Executed (Ok a) s s1 o o1 p → Executed r s1 s2 o1 o2 (f a) → Executed r s s2 o o2 (p >>= f)
 executed_then p f a r s s1 s2 o o1 o2 h g = record {
@@ -79,6 +81,7 @@ gives_fault : {X A B : Type 0} (view : X → A) (p : Process A) (f : A → Proce
 gives_fault view p f vars (call_fault.Script d) g = runs_refused p f vars vars d [] g
 gives_fault view p f vars (call_fault.Memory m) g = breaks_first (p >>= f) vars
 
+-- an expression that is refused ends the piece
 pub executed_exit : {X A B : Type 0} (view : Named → X → A) (known : Named → X → Type 0) (p : Process A) (f : A → Process B) (r : Result B StepFault) (e : CallFault) (s s1 : State) (o : Option (List ℕ))
     → IsErrAnd r (λ y. y ≡ step_fault e) → Evaluates view known (Err e) s s1 (λ names. p) → Executed r s s1 o o (p >>= f)
 executed_exit {X} {A} {B} view known p f r e s s1 o failed h =
@@ -103,6 +106,7 @@ executed_memory {B} p r s s1 o failed keeps same =
 pub executed_gives : {B : Type 0} (b : B) (s : State) (o : Option (List ℕ)) → s.parameters ≡ [] → Executed (Ok b) s s o o (gives b)
 executed_gives b s o none = record { keeps = keeps_all s.names; parameters = none; gained = []; appended = append_known-nil o; does = (refl, refl, refl) }
 
+-- a piece that is refused at once
 pub executed_refuses : {B : Type 0} (e : Fault) (s : State) (o : Option (List ℕ)) → Executed {A = B} (Err (Script e)) s s o o (refuses e)
 executed_refuses e s o = record { keeps = keeps_all s.names; parameters = tt; gained = []; appended = append_known-nil o; does = (refl, refl, refl) }
 
@@ -113,6 +117,7 @@ does_sets x d p vars vars' t (Err (Script e)) g = g
 does_sets x d p vars vars' t (Err Write) g = inr g
 does_sets x d p vars vars' t (Err Memory) g = inr g
 
+-- a variable gets a value, and what comes after it
 pub executed_sets : {B : Type 0} (x : List ℕ) (d : Plain) (p : Process B) (r : Result B StepFault) (s s1 s2 : State) (o o2 : Option (List ℕ)) → s1.names ≡ s.names → s1.variables ≡ with_value x d s.variables
     → Executed r s1 s2 o o2 p → Executed r s s2 o o2 (sets x d p)
 executed_sets x d p r s s1 s2 o o2 names vars g = record {

@@ -3,17 +3,17 @@ use Rattle.std.proofs.Common.{◌≡◌, ◌⊎◌, ℤ, inl, inr, IsErrAnd, suc
 use Rattle.sg_value.specs.Known.{named}
 use Rattle.std.proofs.Math.Path.{fun_ext}
 use Rattle.std.specs.Prelude.{if◌then◌else◌}
-use Rattle.sg_value.specs.Data.{Data, int, truth, text, list, fail, semigroup, ideal, Items, none, item, data_map, items_map, EachThing, EachThingOfAll, Kind}
+use Rattle.sg_value.specs.Data.{Data, int, truth, text, list, fail, semigroup, ideal, Items, none, item, data_map, items_map, EachThing, EachThingOfAll, Kind, join}
 use Rattle.sg_value.specs.Plain.{Named, AllKnown, AllKnownIn, IsKnown, contents, contents_of_all, plain, plain_of_all, thing_at, Things, Places, Stored}
 use Rattle.sg_value.specs.declared.value.Value.{Value}
 use Rattle.sg_rows.specs.Order.{Plain}
-use Rattle.sg_rows.specs.Words.{entry_count, join}
-use Rattle.sg_eval.specs.declared.folding.Folding.{Folding}
-use Rattle.sg_eval.specs.declared.folding.Folding.TheVariants.{EachValue, ThoseTrue, AllTrue, AnyTrue, CountTrue}
-use Rattle.sg_eval.specs.Expressions.{folded, values_over, true_over, is_each, decided, ask}
+use Rattle.sg_rows.specs.Entries.{entry_count}
+use Rattle.sg_calls.specs.declared.command.Folding.{Folding}
+use Rattle.sg_calls.specs.declared.command.Folding.TheVariants.{EachValue, ThoseTrue, AllTrue, AnyTrue, CountTrue}
+use Rattle.sg_meaning.specs.Expressions.{folded, values_over, true_over, is_each, decided, ask}
 use Rattle.sg_eval.specs.Folded.{is_true, goes_on, gathered_at, finished, fold_on}
-use Rattle.sg_eval.specs.Process.{Process, gives, ◌>>=◌}
-use Rattle.sg_eval.specs.Queries.{lists}
+use Rattle.sg_meaning.specs.Process.{Process, gives, ◌>>=◌}
+use Rattle.sg_meaning.specs.Queries.{lists}
 use Rattle.sg_value.specs.declared.value.Value.TheVariants as value
 use Rattle.sg_rows.specs.declared.fault.CallFault.{CallFault}
 use Rattle.sg_rows.proofs.Replying.{contents-Int}
@@ -22,24 +22,24 @@ use Rattle.sg_eval.specs.State.{State}
 use Rattle.sg_eval.specs.Truths.{itself, no_semigroup}
 use Rattle.sg_eval.proofs.Evaluating.{evaluates_as, evaluates_gives}
 use Rattle.sg_eval.proofs.Later.{entry_count-plain}
-use Rattle.sg_eval.proofs.Deciding.{assoc, decided_exit, decided_then}
-use Rattle.sg_eval.proofs.Steps.{join-one, join-none}
+use Rattle.sg_meaning.proofs.Sequels.{assoc}
+use Rattle.sg_eval.proofs.Deciding.{decided_exit, decided_then}
+use Rattle.sg_value.proofs.Joins.{contents_of_all-append, join-none, join-one}
 
+-- what follows where a call went well
 pub on_ok_then : {E : Type 0} (r : Result (Unit {0}) E) (P Q : Type 0) → (P → Q) → OnOk r P → OnOk r Q
 on_ok_then (Ok u) P Q f h = f h
 on_ok_then (Err e) P Q f h = tt
 
 pub contents-put : (vs ws : List Value) (v : Value) → ws ≡ vs ++ v ∷ [] → contents_of_all ws ≡ join (contents_of_all vs) (item (contents v) none)
-contents-put vs ws v is = ap contents_of_all is ∙ contents-more vs v
-  where
-    contents-more : (vs : List Value) (v : Value) → contents_of_all (vs ++ v ∷ []) ≡ join (contents_of_all vs) (item (contents v) none)
-    contents-more [] v = refl
-    contents-more (u ∷ vs) v = ap (item (contents u)) (contents-more vs v)
+contents-put vs ws v is = ap contents_of_all is ∙ contents_of_all-append vs (v ∷ [])
 
+-- one value is gathered
 pub gathered_one : (fold : Folding) (vs ws : List Value) (u d v : Stored) (w : Value) → ws ≡ vs ++ w ∷ [] → contents w ≡ u → gathered_at fold d v ≡ item u none
     → contents_of_all ws ≡ join (contents_of_all vs) (gathered_at fold d v)
 gathered_one fold vs ws u d v w is seen at = contents-put vs ws w is ∙ (ap (λ x. join (contents_of_all vs) (item x none)) seen ∙ ap (join (contents_of_all vs)) (sym at))
 
+-- nothing is gathered
 pub gathered_none : (fold : Folding) (ds : Items Places) (d v : Stored) → gathered_at fold d v ≡ none → ds ≡ join ds (gathered_at fold d v)
 gathered_none fold ds d v at = sym (ap (join ds) at ∙ join-none ds)
 
@@ -89,6 +89,7 @@ at-known P AllTrue d v h k = tt
 at-known P AnyTrue d v h k = tt
 at-known P CountTrue d v h k = if-known P (is_true v) v k
 
+-- what is gathered is known
 pub gathered_known : (names : Named) (fold : Folding) (vs ws : List Value) (e v : Value) → contents_of_all ws ≡ join (contents_of_all vs) (gathered_at fold (contents e) (contents v))
     → AllKnownIn names vs → AllKnown names e → AllKnown names v → AllKnownIn names ws
 gathered_known names fold vs ws e v is all entry value =
@@ -184,6 +185,7 @@ module _ (f : Plain → Process Plain) where
       ap (λ k. f e >>= k) (fun_ext (λ v. any_step e v ds es (λ xs. after_any xs es)))
       ∙ sym (assoc (f e) (λ v. decided v (λ c. if not c then is_each false f es else gives true)) (λ b. gives (truth b)))
 
+  -- entry by entry comes to what the command gives
   pub fold_is : (fold : Folding) (es : Items Things) → fold_on fold f none es ≡ folded fold f es
   fold_is EachValue es = after_values none es
   fold_is ThoseTrue es = after_true none es
@@ -199,30 +201,37 @@ module _ (fold : Folding) (v : Value) (s : State) (is : (fold ≡ ThoseTrue) ⊎
     | inr h ↦ ap (λ f. goes_on f d) h
   ])
 
+  -- the value of a command that wants truth values is none
   pub goes_exit : (r : Result Bool CallFault) (e : CallFault) → IsErrAnd r (λ y. y ≡ e) → Evaluates itself no_semigroup (Err e) s s (λ names. decided (plain names v) (λ b. gives b))
       → Evaluates itself no_semigroup r s s (λ names. goes_on fold (plain names v))
   goes_exit r e failed h =
       evaluates_as itself no_semigroup r s s (λ names. decided (plain names v) (λ b. gives true)) (λ names. goes_on fold (plain names v)) (λ names. sym (goes_as (plain names v)))
       (decided_exit itself no_semigroup v s (λ names b. gives true) r e failed h)
 
+  -- the value is a truth value, and the command goes on
   pub goes_then : (b : Bool) → Evaluates itself no_semigroup (Ok b) s s (λ names. decided (plain names v) (λ c. gives c)) → Evaluates itself no_semigroup (Ok true) s s (λ names. goes_on fold (plain names v))
   goes_then b h =
       evaluates_as itself no_semigroup (Ok true) s s (λ names. decided (plain names v) (λ b. gives true)) (λ names. goes_on fold (plain names v)) (λ names. sym (goes_as (plain names v)))
       (decided_then itself no_semigroup v s (λ names d. gives true) s b (Ok true) h (evaluates_gives itself no_semigroup true s (λ names. true) tt (λ final later. refl)))
 
 module _ (fold : Folding) (d v : Stored) where
+  -- Filtered keeps an entry
   pub those_at : fold ≡ ThoseTrue → true ≡ is_true v → gathered_at fold d v ≡ item d none
   those_at h t = ap (λ f. gathered_at f d v) h ∙ ap (λ b. if b then item d none else none) (sym t)
 
+  -- Number counts an entry
   pub count_at : fold ≡ CountTrue → true ≡ is_true v → gathered_at fold d v ≡ item v none
   count_at h t = ap (λ f. gathered_at f d v) h ∙ ap (λ b. if b then item v none else none) (sym t)
 
+  -- Filtered passes over an entry
   pub those_none : fold ≡ ThoseTrue → false ≡ is_true v → gathered_at fold d v ≡ none
   those_none h t = ap (λ f. gathered_at f d v) h ∙ ap (λ b. if b then item d none else none) (sym t)
 
+  -- Number passes over an entry
   pub count_none : fold ≡ CountTrue → false ≡ is_true v → gathered_at fold d v ≡ none
   count_none h t = ap (λ f. gathered_at f d v) h ∙ ap (λ b. if b then item v none else none) (sym t)
 
+-- the answer is a list
 pub finished_list : (fold : Folding) (all : Bool) (vs : List Value) (s : State) (r : Result Value CallFault) → (fold ≡ EachValue) ⊎ (fold ≡ ThoseTrue)
     → Evaluates plain AllKnown r s s (λ names. ask (lists (plain_of_all names vs))) → Evaluates plain AllKnown r s s (λ names. finished fold all (plain_of_all names vs))
 finished_list fold all vs s r is h = (elim is as (λ i. Evaluates plain AllKnown r s s (λ names. finished fold all (plain_of_all names vs))) [
@@ -230,11 +239,13 @@ finished_list fold all vs s r is h = (elim is as (λ i. Evaluates plain AllKnown
   | inr e ↦ subst (λ f. Evaluates plain AllKnown r s s (λ names. finished f all (plain_of_all names vs))) (sym e) h
 ])
 
+-- the answer is a count
 pub finished_count : (all : Bool) (vs : List Value) (s : State) (z : ℤ) → z ≡ pos (length vs) → Evaluates plain AllKnown (Ok (value.Int z)) s s (λ names. finished CountTrue all (plain_of_all names vs))
 finished_count all vs s z is =
     evaluates_gives plain AllKnown (value.Int z) s (λ names. int (pos (entry_count (plain_of_all names vs)))) (subst (EachThing (IsKnown (named s.names))) (sym (contents-Int z)) tt)
     (λ final later. ap (data_map (thing_at (named final))) (contents-Int z) ∙ ap int (is ∙ ap pos (sym (entry_count-plain (named final) vs))))
 
+-- ForAll and ForAny gather nothing
 pub nothing_at : (fold : Folding) (d v : Stored) → (fold ≡ AllTrue) ⊎ (fold ≡ AnyTrue) → gathered_at fold d v ≡ none
 nothing_at fold d v is = (elim is as (λ i. gathered_at fold d v ≡ none) [
   | inl h ↦ ap (λ f. gathered_at f d v) h

@@ -1,5 +1,5 @@
 -- Variables' lists that grow in their places.
-use Rattle.std.proofs.Common.{◌≡◌, ◌∷◌, ℕ, suc, List, [], length, Bor, Option, Some, None, Result, Ok, Err, OnErr, refl, ap, sym, ◌∙◌, subst, arith}
+use Rattle.std.proofs.Common.{◌≡◌, true, ◌∷◌, ℕ, suc, List, [], length, Bor, Option, Some, None, Result, Ok, Err, OnErr, refl, ap, sym, ◌∙◌, subst, arith}
 use Rattle.std.specs.Prelude.{codes, IfSome, if◌then◌else◌}
 use Rattle.std.proofs.lemmas.Bool.{le-leb}
 use Rattle.std.specs.Map.{lookup, set_value}
@@ -16,34 +16,36 @@ use Rattle.sg_rows.specs.Replies.{Replies}
 use Rattle.sg_rows.specs.declared.fault.CallFault.{CallFault}
 use Rattle.sg_rows.specs.declared.fault.CallFault.TheVariants.{Script}
 use Rattle.sg_rows.specs.declared.fault.Fault.TheVariants.{UnknownName, WrongCount}
-use Rattle.sg_lists.specs.Lists.{concatenation_of, left_in}
-use Rattle.sg_calls.specs.Answers.{case_of}
-use Rattle.sg_calls.specs.Commands.{checked, command_named}
+use Rattle.sg_rows_lists.specs.Concatenations.{concatenation_of, left_in}
+use Rattle.sg_rows_lists.specs.Lists.{named as list_named}
+use Rattle.sg_rows_lists.specs.declared.lists.ListCommand.TheVariants.{Concatenation}
+use Rattle.sg_calls.specs.Commands.{takes, word_named}
+use Rattle.sg_calls.specs.declared.command.Command.TheVariants.{Lists}
+use Rattle.sg_calls.specs.declared.command.Word.TheVariants as word
 use Rattle.sg_tree.specs.Tree.{Tree, Arguments, argument, call, variable, plain as plain_argument}
 use Rattle.sg_tree.specs.TreeView.{arguments_of}
 use Rattle.sg_tree.specs.declared.expr.Arg.{Arg}
-use Rattle.sg_eval.specs.Expressions.{looked_up, known, eval, eval_given, plain_alone, unless, argument_count, called, eval_folding, ask}
+use Rattle.sg_meaning.specs.Expressions.{looked_up, known, eval, eval_given, plain_alone, argument_count, called, eval_folding, ask}
 use Rattle.sg_eval.specs.Given.{plain_where, known_where}
 use Rattle.sg_eval.specs.Growth.{onto, joined_onto, Grows}
 use Rattle.sg_eval.specs.Outcomes.{Evaluates}
-use Rattle.sg_eval.specs.Process.{Process, gives, ◌>>=◌, Runs}
-use Rattle.sg_eval.specs.Queries.{calls}
+use Rattle.sg_meaning.specs.Process.{Process, gives, refuses, ◌>>=◌, Runs}
+use Rattle.sg_meaning.specs.Queries.{calls}
 use Rattle.sg_eval.specs.State.{State, values_of, AreKnownIn}
-use Rattle.sg_eval.specs.Vars.{Vars, with_value}
+use Rattle.sg_meaning.specs.Vars.{Vars, with_value}
 use Rattle.sg_eval.proofs.Borrowed.{entry_only}
-use Rattle.sg_eval.proofs.Deciding.{assoc}
+use Rattle.sg_meaning.proofs.Sequels.{assoc}
 use Rattle.sg_eval.proofs.Evaluating.{evaluates_as, evaluates_then, evaluates_reply, keeps_all}
-use Rattle.sg_eval.proofs.Later.{call_answered, variable_found, copy_known}
-use Rattle.sg_eval.proofs.Named.{Entries, is_named, values-set, values-kept, known-set, lookup-some, lookup-none, lookup-known}
+use Rattle.sg_eval.proofs.Later.{row_answered, variable_found, copy_known}
+use Rattle.sg_eval.proofs.Named.{Pairs, is_named, values-set, values-kept, known-set, lookup-some, lookup-none, lookup-known}
 
 -- Concatenation takes one argument and more
-pub concatenation_right : (n : ℕ) → checked (codes "Concatenation") (suc n) ≡ None
-unfolding command_named
-concatenation_right n = ap (λ b. if b then None else Some WrongCount) (le-leb 1 (suc n) (omega arith))
+concatenation_right : (n : ℕ) → takes (Lists Concatenation) (suc n) ≡ true
+concatenation_right n = le-leb 1 (suc n) (omega arith)
 
-concatenation_row : (ds : Items Things) → case_of (command_named (codes "Concatenation")) ds ≡ concatenation_of ds
-unfolding command_named
-concatenation_row ds = refl
+concatenation_word : word_named (codes "Concatenation") ≡ Some (word.Command (Lists Concatenation))
+unfolding word_named list_named
+concatenation_word = refl
 
 -- a call whose arguments are a name and others
 pub onto_same : (t : Tree) (x : List ℕ) (args : Arguments) (o : Option (Bor (List Arg))) → t ≡ call (codes "Concatenation") args → IfSome o (λ others. args ≡ argument (plain_argument (variable x)) (arguments_of others.now))
@@ -53,28 +55,30 @@ onto_same t x args (Some others) is h = is ∙ ap (call (codes "Concatenation"))
 
 -- a list and others as arguments of that command
 abbrev pub with_others : Plain → Option (Items Things) → Process Plain
-with_others d o = plain_alone (option_map (item d) o) (λ ds. ask (calls (codes "Concatenation") ds))
+with_others d o = plain_alone (option_map (item d) o) (λ ds. ask (calls (Lists Concatenation) ds))
 
 -- the call, argument by argument
 pub onto_step : (x : List ℕ) (others : Arguments) → looked_up None x >>= (λ d. eval_given [] others >>= with_others d) ≡ eval [] (onto x others)
 onto_step x others =
-    let after = λ (o : Option (Items Things)). plain_alone o (λ ds. ask (calls (codes "Concatenation") ds)) in
+    let args = argument (plain_argument (variable x)) others in
+    let after = λ (o : Option (Items Things)). plain_alone o (λ ds. ask (calls (Lists Concatenation) ds)) in
     let given = eval_given [] others in
     ap (λ k. looked_up None x >>= k) (fun_ext (λ d. sym (assoc given (λ o. gives (option_map (item d) o)) after)))
     ∙ (sym (assoc (looked_up None x) (λ d. given >>= (λ o. gives (option_map (item d) o))) after)
-    ∙ ap (λ c. unless c ((looked_up None x >>= (λ d. given >>= (λ o. gives (option_map (item d) o)))) >>= after)) (sym (concatenation_right (argument_count others))))
+    ∙ (ap (λ b. if b then (looked_up None x >>= (λ d. given >>= (λ o. gives (option_map (item d) o)))) >>= after else refuses WrongCount) (sym (concatenation_right (argument_count others)))
+    ∙ ap (λ w. called w (argument_count args) (eval_given [] args) (eval_folding [] args)) (sym concatenation_word)))
 
 -- what a list answers in its place is what the command answers
 onto_reply : (s : State) (x : List ℕ) (u v : Value) (lists : List Value) (r : Result (Unit {0}) CallFault) → s.parameters ≡ [] → lookup (bytes_eq x) s.variables ≡ Some (plain (named s.names) u) → AllKnownIn (named s.names) (u ∷ lists)
     → Replies (left_in v r) s.names (concatenation_of (plain_of_all (named s.names) (u ∷ lists))) → Evaluates plain AllKnown (left_in v r) s s (λ names. joined_onto x (plain_of_all names lists))
 onto_reply s x u v lists r none found is_known reply =
     let there = subst (λ ps. Evaluates plain AllKnown (Ok u) s s (λ names. looked_up (lookup (bytes_eq x) ps) x)) none (variable_found s x u u (ap (lookup (bytes_eq x)) none) found is_known.0 refl) in
-    evaluates_then plain AllKnown plain AllKnown u (left_in v r) s s s (λ names. looked_up None x) (λ names d. ask (calls (codes "Concatenation") (item d (plain_of_all names lists)))) there
-    (evaluates_reply (left_in v r) s s (concatenation_of (plain_of_all (named s.names) (u ∷ lists))) (λ names. calls (codes "Concatenation") (plain_of_all names (u ∷ lists))) (keeps_all s.names) refl refl
-    (λ final later t g. call_answered s.names final (u ∷ lists) (codes "Concatenation") t later is_known (concatenation_right (length lists)) (subst (λ c. IsReply c t) (sym (concatenation_row (plain_of_all (named s.names) (u ∷ lists)))) g)) reply)
+    evaluates_then plain AllKnown plain AllKnown u (left_in v r) s s s (λ names. looked_up None x) (λ names d. ask (calls (Lists Concatenation) (item d (plain_of_all names lists)))) there
+    (evaluates_reply (left_in v r) s s (concatenation_of (plain_of_all (named s.names) (u ∷ lists))) (λ names. calls (Lists Concatenation) (plain_of_all names (u ∷ lists))) (keeps_all s.names) refl refl
+    (λ final later t g. row_answered s.names final (u ∷ lists) (Lists Concatenation) t later is_known g) reply)
 
 -- a list grew in the place of its variable
-pub grown_there : (s : State) (x : List ℕ) (es fs : Entries) (u v : Value) (lists : List Value) (r : Result (Unit {0}) CallFault) → s.parameters ≡ [] → s.variables ≡ values_of s.names es → AreKnownIn s.names es → AllKnownIn (named s.names) lists
+pub grown_there : (s : State) (x : List ℕ) (es fs : Pairs) (u v : Value) (lists : List Value) (r : Result (Unit {0}) CallFault) → s.parameters ≡ [] → s.variables ≡ values_of s.names es → AreKnownIn s.names es → AllKnownIn (named s.names) lists
     → Some u ≡ lookup (is_named x) es → fs ≡ set_value (is_named x) es v → ((store : Known) → AllKnownIn (named store) (u ∷ lists) → Replies (left_in v r) store (concatenation_of (plain_of_all (named store) (u ∷ lists)))) → OnErr r (contents v ≡ contents u)
     → Grows r s (values_of s.names fs) x (λ names. joined_onto x (plain_of_all names lists))
 grown_there s x es fs u v lists (Ok done) none vars all known_lists found is reply same =
@@ -90,7 +94,7 @@ grown_there s x es fs u v lists (Err e) none vars all known_lists found is reply
     (onto_reply s x u v lists (Err e) none there known (reply s.names known), ap (values_of s.names) is ∙ (values-kept s.names x es u v found same ∙ sym vars))
 
 -- there is no such variable
-pub grown_nowhere : (s : State) (x : List ℕ) (es fs : Entries) (lists : List Value) → s.variables ≡ values_of s.names es → None ≡ lookup (is_named x) es → fs ≡ es
+pub grown_nowhere : (s : State) (x : List ℕ) (es fs : Pairs) (lists : List Value) → s.variables ≡ values_of s.names es → None ≡ lookup (is_named x) es → fs ≡ es
     → Grows (Err (Script UnknownName)) s (values_of s.names fs) x (λ names. joined_onto x (plain_of_all names lists))
 grown_nowhere s x es fs lists vars missing is = (
   record {
@@ -98,13 +102,13 @@ grown_nowhere s x es fs lists vars missing is = (
     variables = refl;
     parameters = tt;
     is_known = tt;
-    gives = λ final later. subst (λ o. Runs (known o >>= (λ d. ask (calls (codes "Concatenation") (item d (plain_of_all (named final) lists))))) s.variables (Err UnknownName) s.variables []) (sym (ap (lookup (bytes_eq x)) vars ∙ lookup-none s.names x es missing)) (refl, refl, refl);
+    gives = λ final later. subst (λ o. Runs (known o >>= (λ d. ask (calls (Lists Concatenation) (item d (plain_of_all (named final) lists))))) s.variables (Err UnknownName) s.variables []) (sym (ap (lookup (bytes_eq x)) vars ∙ lookup-none s.names x es missing)) (refl, refl, refl);
   },
   ap (values_of s.names) is ∙ sym vars,
 )
 
 -- the values are known as before
-pub known_there : (names : Known) (x : List ℕ) (es fs : Entries) (u v : Value) (lists : List Value) (r : Result (Unit {0}) CallFault) → Some u ≡ lookup (is_named x) es → fs ≡ set_value (is_named x) es v
+pub known_there : (names : Known) (x : List ℕ) (es fs : Pairs) (u v : Value) (lists : List Value) (r : Result (Unit {0}) CallFault) → Some u ≡ lookup (is_named x) es → fs ≡ set_value (is_named x) es v
     → ((store : Known) → AllKnownIn (named store) (u ∷ lists) → Replies (left_in v r) store (concatenation_of (plain_of_all (named store) (u ∷ lists)))) → OnErr r (contents v ≡ contents u) → AreKnownIn names es → AllKnownIn (named names) lists → AreKnownIn names fs
 known_there names x es fs u v lists (Ok done) found is reply same all known_lists =
     subst (AreKnownIn names) (sym is) (known-set names x es v all (reply names (lookup-known names x es u found all, known_lists)).1)

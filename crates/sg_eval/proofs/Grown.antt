@@ -1,6 +1,5 @@
 -- What an assignment does whose variable's list grows in its place.
 use Rattle.std.proofs.Common.{◌≡◌, ◌∷◌, ℕ, List, [], Option, Some, None, Result, Ok, Err, IsErrAnd, Vec, Global, refl, ap, ap₂, sym, ◌∙◌, subst}
-use Rattle.std.specs.Prelude.{codes}
 use Rattle.std.specs.Map.{lookup}
 use Rattle.std.specs.Str.{bytes_eq}
 use Rattle.std.proofs.Math.Path.{fun_ext}
@@ -10,22 +9,24 @@ use Rattle.sg_value.specs.Plain.{Named, AllKnown, plain, plain_of_all, Things}
 use Rattle.sg_value.specs.declared.value.Value.{Value}
 use Rattle.sg_store.specs.Interned.{Keeps}
 use Rattle.sg_rows.specs.Order.{Plain}
+use Rattle.sg_rows_lists.specs.declared.lists.ListCommand.TheVariants.{Concatenation}
 use Rattle.sg_rows.specs.declared.fault.CallFault.{CallFault}
+use Rattle.sg_calls.specs.declared.command.Command.TheVariants.{Lists}
 use Rattle.sg_rows.specs.declared.fault.Fault.TheVariants.{WrongType}
 use Rattle.sg_tree.specs.Tree.{Arguments}
 use Rattle.sg_eval.specs.declared.step_fault.StepFault.{StepFault}
 use Rattle.sg_eval.specs.declared.step_fault.StepFault.TheVariants.{Script}
-use Rattle.sg_eval.specs.Expressions.{looked_up, eval, eval_given, ask}
+use Rattle.sg_meaning.specs.Expressions.{looked_up, eval, eval_given, ask}
 use Rattle.sg_eval.specs.Given.{plain_where, known_where}
 use Rattle.sg_eval.specs.Growth.{onto, joined_onto, Grows}
 use Rattle.sg_eval.specs.Outcomes.{Evaluates}
-use Rattle.sg_eval.specs.Process.{Process, gives, sets, ◌>>=◌}
-use Rattle.sg_eval.specs.Queries.{calls}
+use Rattle.sg_meaning.specs.Process.{Process, gives, sets, ◌>>=◌}
+use Rattle.sg_meaning.specs.Queries.{calls}
 use Rattle.sg_eval.specs.State.{State}
 use Rattle.sg_eval.specs.Steps.{Executed, step_fault}
-use Rattle.sg_eval.specs.Vars.{Vars}
+use Rattle.sg_meaning.specs.Vars.{Vars}
 use Rattle.sg_eval.proofs.Borrowed.{entry_only}
-use Rattle.sg_eval.proofs.Deciding.{assoc}
+use Rattle.sg_meaning.proofs.Sequels.{assoc}
 use Rattle.sg_eval.proofs.Evaluating.{evaluates_later, keeps_then, plain_later, plain_of_all_later}
 use Rattle.sg_eval.proofs.Executing.{at_top, executed_as, executed_exit, executed_gives, executed_refuses, executed_sets, executed_value}
 use Rattle.sg_eval.proofs.Growing.{with_others, onto_step}
@@ -68,11 +69,13 @@ module _ (s : State) (x : List ℕ) (others : Arguments) (o : Option (List ℕ))
         executed_as (looked_up None x >>= assigning x others) (eval [] (onto x others) >>= setting x) r s s1 o o (onto_done x others)
         (executed_value plain AllKnown (looked_up None x) (assigning x others) v r s s s1 o o (at_top plain AllKnown (Ok v) s s (λ ps. looked_up (lookup (bytes_eq x) ps) x) none found) h)
 
+    -- another argument is refused
     pub others_refused : (r : Result (Unit {0}) StepFault) (e : CallFault) (s1 : State) → IsErrAnd r (λ y. y ≡ step_fault e) → Evaluates plain_where known_where (Err e) s s1 (λ names. eval_given s.parameters others)
         → Executed r s s1 o o (eval [] (onto x others) >>= setting x)
     others_refused r e s1 failed h =
         after_found r s1 (executed_exit plain_where known_where (eval_given [] others) (λ w. with_others (plain (named s.names) v) w >>= setting x) r e s s1 o failed (at_top plain_where known_where (Err e) s s1 (λ ps. eval_given ps others) none h))
 
+    -- another argument is an arrow
     pub others_with_arrow : (s1 : State) → Evaluates plain_where known_where (Ok None) s s1 (λ names. eval_given s.parameters others) → Executed (Err (Script WrongType)) s s1 o o (eval [] (onto x others) >>= setting x)
     others_with_arrow s1 h =
         after_found (Err (Script WrongType)) s1
@@ -82,7 +85,7 @@ module _ (s : State) (x : List ℕ) (others : Arguments) (o : Option (List ℕ))
     module _ (s1 s2 : State) (lists : Vec Value Global) (given : Evaluates plain_where known_where (Ok (Some lists)) s s1 (λ names. eval_given s.parameters others)) (names : s2.names ≡ s1.names) where
       -- what the command is asked for, over the values that were found
       abbrev asked : Process Plain
-      asked = ask (calls (codes "Concatenation") (item (plain (named s.names) v) (plain_of_all (named s1.names) lists.items)))
+      asked = ask (calls (Lists Concatenation) (item (plain (named s.names) v) (plain_of_all (named s1.names) lists.items)))
 
       after_given : (r : Result (Unit {0}) StepFault) → Executed r s1 s2 o o (asked >>= setting x) → Executed r s s2 o o (eval [] (onto x others) >>= setting x)
       after_given r h =
@@ -93,15 +96,17 @@ module _ (s : State) (x : List ℕ) (others : Arguments) (o : Option (List ℕ))
       of_found : (r : Result Value CallFault) → Evaluates plain AllKnown r s1 s1 (λ names. joined_onto x (plain_of_all names lists.items)) → Evaluates plain AllKnown r s1 s1 (λ names. asked)
       of_found r h =
           let outside = given.parameters ∙ none in
-          let still = subst (λ ps. Evaluates plain AllKnown r s1 s1 (λ names. looked_up (lookup (bytes_eq x) ps) x >>= (λ d. ask (calls (codes "Concatenation") (item d (plain_of_all names lists.items)))))) (sym outside) h in
-          evaluates_later plain AllKnown r s1 s1 (λ names. ask (calls (codes "Concatenation") (item (plain names v) (plain_of_all names lists.items)))) (λ names. asked)
-          (λ final later. ap₂ (λ (d : Plain) (ds : Items Things). ask (calls (codes "Concatenation") (item d ds))) (plain_later s.names final v (keeps_then s.names s1.names final given.keeps later) found.is_known) (plain_of_all_later s1.names final lists.items later given.is_known))
-          (entry_only s s1 x v r given.parameters given.variables given.keeps (λ names d. ask (calls (codes "Concatenation") (item d (plain_of_all names lists.items)))) found still)
+          let still = subst (λ ps. Evaluates plain AllKnown r s1 s1 (λ names. looked_up (lookup (bytes_eq x) ps) x >>= (λ d. ask (calls (Lists Concatenation) (item d (plain_of_all names lists.items)))))) (sym outside) h in
+          evaluates_later plain AllKnown r s1 s1 (λ names. ask (calls (Lists Concatenation) (item (plain names v) (plain_of_all names lists.items)))) (λ names. asked)
+          (λ final later. ap₂ (λ (d : Plain) (ds : Items Things). ask (calls (Lists Concatenation) (item d ds))) (plain_later s.names final v (keeps_then s.names s1.names final given.keeps later) found.is_known) (plain_of_all_later s1.names final lists.items later given.is_known))
+          (entry_only s s1 x v r given.parameters given.variables given.keeps (λ names d. ask (calls (Lists Concatenation) (item d (plain_of_all names lists.items)))) found still)
 
+      -- the lists are refused
       pub growth_refused : (r : Result (Unit {0}) StepFault) (e : CallFault) → IsErrAnd r (λ y. y ≡ step_fault e) → Grows (Err e) s1 s2.variables x (λ names. joined_onto x (plain_of_all names lists.items))
           → Executed r s s2 o o (eval [] (onto x others) >>= setting x)
       growth_refused r e failed h = after_given r (executed_exit plain AllKnown asked (setting x) r e s1 s2 o failed (refused_still e s1 s1 s2 (λ names. asked) names h.1 (of_found (Err e) h.0)))
 
+      -- the list grew
       pub growth_done : s2.parameters ≡ s1.parameters → Grows (Ok tt) s1 s2.variables x (λ names. joined_onto x (plain_of_all names lists.items)) → Executed (Ok tt) s s2 o o (eval [] (onto x others) >>= setting x)
       growth_done params h =
           after_given (Ok tt)

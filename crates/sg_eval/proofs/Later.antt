@@ -8,43 +8,44 @@ use Rattle.sg_value.specs.Plain.{Named, AllKnown, AllKnownIn, contents, plain, p
 use Rattle.sg_value.specs.declared.value.Value.{Value}
 use Rattle.sg_store.specs.Interned.{Keeps}
 use Rattle.sg_rows.specs.Order.{Plain, Reply, IsReply}
-use Rattle.sg_calls.specs.Commands.{checked, command_named}
-use Rattle.sg_rows.specs.Words.{entry_count}
-use Rattle.sg_calls.specs.Answers.{Answer, reply_unless, case_of}
-use Rattle.sg_eval.specs.Expressions.{looked_up}
-use Rattle.sg_eval.specs.Process.{Runs}
-use Rattle.sg_eval.specs.Expressions.{known}
+use Rattle.sg_calls.specs.Rows.{row}
+use Rattle.sg_calls.specs.declared.command.Command.{Command}
+use Rattle.sg_rows.specs.Entries.{entry_count}
+use Rattle.sg_meaning.specs.Expressions.{looked_up, known}
+use Rattle.sg_meaning.specs.Process.{Runs}
 use Rattle.sg_eval.specs.Outcomes.{Evaluates}
 use Rattle.sg_eval.specs.State.{State, vars_of, AreKnown}
 use Rattle.sg_eval.specs.declared.variable.Variable.{Variable}
 use Rattle.sg_eval.proofs.Evaluating.{known_later, plain_later, plain_of_all_later, evaluates_gives, keeps_all}
 
+-- parameters that are known stay known
 pub are_known_later : (a b : Known) (vs : List Variable) → Keeps a b → AreKnown a vs → AreKnown b vs
 are_known_later a b vs kept known = λ k d within. known_later a b (get_or vs k d).value kept (known k d within)
 
+-- the plain parameters over a later store
 pub vars_later : (a b : Known) (vs : List Variable) → Keeps a b → AreKnown a vs → vars_of b vs ≡ vars_of a vs
 vars_later a b [] kept is_known = refl
 vars_later a b (v ∷ vs) kept is_known =
     ap₂ (λ (d : Plain) rest. (v.name, d) ∷ rest) (plain_later a b v.value kept (is_known 0 v (omega arith))) (vars_later a b vs kept (λ k d within. is_known (suc k) d (omega (arith, within))))
 
+-- there are as many plain values
 pub entry_count-plain : (names : Named) (vs : List Value) → entry_count (plain_of_all names vs) ≡ length vs
 entry_count-plain names [] = refl
 entry_count-plain names (v ∷ vs) = ap suc (entry_count-plain names vs)
 
--- the reply to a call whose name and number of arguments are right
-pub call_answered : (a b : Known) (vs : List Value) (name : List ℕ) (t : Reply) → Keeps a b → AllKnownIn (named a) vs → checked name (length vs) ≡ None
-    → IsReply (case_of (command_named name) (plain_of_all (named a) vs)) t → Answer name (plain_of_all (named b) vs) t
-call_answered a b vs name t kept is_known right h =
-    subst (λ ds. Answer name ds t) (sym (plain_of_all_later a b vs kept is_known))
-    (subst (λ o. reply_unless o (plain_of_all (named a) vs) (command_named name) t) (sym (ap (checked name) (entry_count-plain (named a) vs) ∙ right)) h)
+-- the reply of a command, over a later store
+pub row_answered : (a b : Known) (vs : List Value) (c : Command) (t : Reply) → Keeps a b → AllKnownIn (named a) vs → IsReply (row c (plain_of_all (named a) vs)) t → IsReply (row c (plain_of_all (named b) vs)) t
+row_answered a b vs c t kept is_known h = subst (λ ds. IsReply (row c ds) t) (sym (plain_of_all_later a b vs kept is_known)) h
 
 -- a copy of a value
 pub copy_plain : (names : Named) (v w : Value) → contents w ≡ contents v → plain names w ≡ plain names v
 copy_plain names v w h = ap (data_map (thing_at names)) h
 
+-- a copy is known
 pub copy_known : (names : Named) (v w : Value) → contents w ≡ contents v → AllKnown names v → AllKnown names w
 copy_known names v w h is_known = subst (EachThing (IsKnown names)) (sym h) is_known
 
+-- a name is that of a parameter
 pub parameter_found : (s : State) (name : List ℕ) (v w : Value) → lookup (bytes_eq name) s.parameters ≡ Some (plain (named s.names) v) → AllKnown (named s.names) v → contents w ≡ contents v
     → Evaluates plain AllKnown (Ok w) s s (λ names. looked_up (lookup (bytes_eq name) s.parameters) name)
 parameter_found s name v w found is_known copy =
@@ -52,6 +53,7 @@ parameter_found s name v w found is_known copy =
     (evaluates_gives plain AllKnown w s (λ names. plain (named s.names) v) (copy_known (named s.names) v w copy is_known)
     (λ final later. copy_plain (named final) v w copy ∙ plain_later s.names final v later is_known))
 
+-- a name is that of a variable alone
 pub variable_found : (s : State) (name : List ℕ) (v w : Value) → lookup (bytes_eq name) s.parameters ≡ None → lookup (bytes_eq name) s.variables ≡ Some (plain (named s.names) v)
     → AllKnown (named s.names) v → contents w ≡ contents v → Evaluates plain AllKnown (Ok w) s s (λ names. looked_up (lookup (bytes_eq name) s.parameters) name)
 variable_found s name v w absent found is_known copy =

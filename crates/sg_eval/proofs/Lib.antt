@@ -1,5 +1,3 @@
-pub mod OneEnd
-pub mod Runs
 pub mod Evaluating
 pub mod Later
 pub mod Measured
@@ -15,9 +13,6 @@ pub mod Blocks
 pub mod Named
 pub mod Sizes
 pub mod Stepping
-pub mod SomeEnd
-pub mod LawfulExpressions
-pub mod LawfulStatements
 pub mod Borrowed
 pub mod AtOnce
 pub mod Computed

@@ -6,6 +6,7 @@ use mir.Val.{to_z, of_z}
 use Rattle.std.proofs.lemmas.Int.{to_z-of_z, to_z_pos}
 use Rattle.std.proofs.Math.IntN.{+ℤ_assoc, +ℤ_idr}
 use Rattle.std.proofs.Math.Path.{fun_ext}
+use Rattle.sg_value.specs.declared.limits.TheConstants.{WEIGHT_LIMIT}
 use Rattle.sg_value.specs.Known.{named}
 use Rattle.sg_value.specs.Data.{EachThing, int, list, none, item, data_map, Items}
 use Rattle.sg_value.specs.Plain.{Named, Things, AllKnown, IsKnown, Entries, plain, thing_at}
@@ -15,21 +16,20 @@ use Rattle.sg_rows.specs.Order.{Plain}
 use Rattle.sg_rows.specs.Kinds.{as_list}
 use Rattle.sg_rows.specs.declared.fault.CallFault.{CallFault}
 use Rattle.sg_tree.specs.Tree.{Tree, span}
-use Rattle.sg_eval.specs.Entries.{integers_in}
-use Rattle.sg_eval.specs.Expressions.{eval, ask, listed}
+use Rattle.sg_meaning.specs.Entries.{integers_from}
+use Rattle.sg_meaning.specs.Expressions.{eval, ask, listed}
 use Rattle.sg_eval.specs.Outcomes.{Evaluates, plain_items, known_items}
-use Rattle.sg_eval.specs.Process.{Process, gives, ◌>>=◌, Runs}
-use Rattle.sg_eval.specs.Queries.{spans, integers_from}
-use Rattle.sg_eval.specs.Ranges.{IsRow, list_of_row, is_row, ranged, entries_in, are_known}
+use Rattle.sg_meaning.specs.Process.{Process, gives, ◌>>=◌, Runs}
+use Rattle.sg_meaning.specs.Queries.{spans}
+use Rattle.sg_eval.specs.Ranges.{IsRange, list_of_range, is_range, ranged, entries_in, are_known}
 use Rattle.sg_eval.specs.State.{State}
 use Rattle.sg_eval.specs.Steps.{listed_of}
-use Rattle.sg_eval.specs.Vars.{Vars}
-use Rattle.sg_eval.specs.declared.entries.Range.{Range}
-use Rattle.sg_eval.specs.declared.entries.Entries.TheVariants as entries
-use Rattle.sg_eval.proofs.Deciding.{assoc}
+use Rattle.sg_meaning.specs.Vars.{Vars}
+use Rattle.sg_eval.specs.declared.sequence.Range.{Range}
+use Rattle.sg_eval.specs.declared.sequence.Sequence.TheVariants as sequence
+use Rattle.sg_meaning.proofs.Sequels.{assoc, right_unit}
 use Rattle.sg_eval.proofs.Evaluating.{evaluates_as, evaluates_exit, evaluates_then, evaluates_gives}
 use Rattle.sg_eval.proofs.Spanned.{integers_map, integers_known}
-use Rattle.sg_eval.proofs.Steps.{right_unit}
 
 -- a refusal, however values are seen
 pub exit_as : {X Y A : Type 0} (view : Named → X → A) (known : Named → X → Type 0) (view' : Named → Y → A) (known' : Named → Y → Type 0) (r : Result Y CallFault) (e : CallFault) (s s1 : State) (p : Named → Process A)
@@ -37,27 +37,27 @@ pub exit_as : {X Y A : Type 0} (view : Named → X → A) (known : Named → X �
 exit_as view known view' known' r e s s1 p failed h =
     evaluates_as view' known' r s s1 (λ names. p names >>= (λ d. gives d)) p (λ names. right_unit (p names)) (evaluates_exit view known view' known' r e s s1 p (λ names d. gives d) failed h)
 
--- a row that is written out
-pub row_listed : (row : Range) (ds : Entries) (s s1 : State) (p : Named → Process Plain) → Evaluates list_of_row is_row (Ok row) s s1 p → ds ≡ integers_in row.first row.count
+-- a range that is written out
+pub range_listed : (range : Range) (ds : Entries) (s s1 : State) (p : Named → Process Plain) → Evaluates list_of_range is_range (Ok range) s s1 p → ds ≡ integers_from range.first range.count
     → Evaluates plain AllKnown (Ok (value.List ds)) s s1 p
-row_listed row ds s s1 p h is =
-    let seen : list ds ≡ list (integers_in row.first row.count) = ap list is in
+range_listed range ds s s1 p h is =
+    let seen : list ds ≡ list (integers_from range.first range.count) = ap list is in
     record {
       keeps = h.keeps;
       variables = h.variables;
       parameters = h.parameters;
-      is_known = subst (EachThing (IsKnown (named s1.names))) (sym seen) (integers_known (IsKnown (named s1.names)) row.first row.count);
-      gives = λ final later. subst (λ d. Runs (p (named final)) s.variables (Ok d) s.variables []) (sym (ap (data_map (thing_at (named final))) seen ∙ ap list (integers_map (thing_at (named final)) row.first row.count))) (h.gives final later);
+      is_known = subst (EachThing (IsKnown (named s1.names))) (sym seen) (integers_known (IsKnown (named s1.names)) range.first range.count);
+      gives = λ final later. subst (λ d. Runs (p (named final)) s.variables (Ok d) s.variables []) (sym (ap (data_map (thing_at (named final))) seen ∙ ap list (integers_map (thing_at (named final)) range.first range.count))) (h.gives final later);
     }
 
--- a row as what a loop goes over
-pub row_counted : (row : Range) (s s1 : State) (p : Named → Process Plain) → Evaluates list_of_row is_row (Ok row) s s1 p → Evaluates entries_in are_known (Ok (entries.Counted row)) s s1 (λ names. p names >>= (λ d. listed (as_list d) (λ ds. gives ds)))
-row_counted row s s1 p h =
-    evaluates_then list_of_row is_row entries_in are_known row (Ok (entries.Counted row)) s s1 s1 p (λ names d. listed (as_list d) (λ ds. gives ds)) h
-    (evaluates_gives entries_in are_known (entries.Counted row) s1 (λ names. integers_from row.first row.count) h.is_known (λ final later. refl))
+-- a range as what a loop goes over
+pub range_counted : (range : Range) (s s1 : State) (p : Named → Process Plain) → Evaluates list_of_range is_range (Ok range) s s1 p → Evaluates entries_in are_known (Ok (sequence.Counted range)) s s1 (λ names. p names >>= (λ d. listed (as_list d) (λ ds. gives ds)))
+range_counted range s s1 p h =
+    evaluates_then list_of_range is_range entries_in are_known range (Ok (sequence.Counted range)) s s1 s1 p (λ names d. listed (as_list d) (λ ds. gives ds)) h
+    (evaluates_gives entries_in are_known (sequence.Counted range) s1 (λ names. integers_from range.first range.count) h.is_known (λ final later. refl))
 
 -- entries that are there, as what a loop goes over
-pub entries_listed : (ds : Entries) (s s1 : State) (p : Named → Process (Items Things)) → Evaluates plain_items known_items (Ok ds) s s1 p → Evaluates entries_in are_known (Ok (entries.Listed ds)) s s1 p
+pub entries_listed : (ds : Entries) (s s1 : State) (p : Named → Process (Items Things)) → Evaluates plain_items known_items (Ok ds) s s1 p → Evaluates entries_in are_known (Ok (sequence.Listed ds)) s s1 p
 entries_listed ds s s1 p h = record { keeps = h.keeps; variables = h.variables; parameters = h.parameters; is_known = h.is_known; gives = h.gives }
 
 -- the entries of a range, operand by operand
@@ -67,22 +67,24 @@ span_step ps low high =
     ∙ ap (λ k. eval ps low >>= k) (fun_ext (λ a. assoc (eval ps high) (λ b. ask (spans a b)) (λ d. listed (as_list d) (λ ds. gives ds)))))
 
 -- the integers that are left
-pub integers_left : (z : ℤ) (n i : ℕ) → i < n → integers_from (z +ℤ pos i) (n - i) ≡ item (int (z +ℤ pos i)) (integers_from (z +ℤ pos (i + 1)) (n - (i + 1)))
+pub integers_left : (z : ℤ) (n i : ℕ) → i < n → integers_from {H = Things} (z +ℤ pos i) (n - i) ≡ item (int (z +ℤ pos i)) (integers_from {H = Things} (z +ℤ pos (i + 1)) (n - (i + 1)))
 integers_left z n i within =
     let less : n - i ≡ suc (n - (i + 1)) = omega (arith, within) in
-    ap (integers_from (z +ℤ pos i)) less ∙ ap (λ k. item (int (z +ℤ pos i)) (integers_from k (n - (i + 1)))) (+ℤ_assoc z (pos i) (pos 1))
+    ap (integers_from {H = Things} (z +ℤ pos i)) less ∙ ap (λ k. item (int (z +ℤ pos i)) (integers_from {H = Things} k (n - (i + 1)))) (+ℤ_assoc z (pos i) (pos 1))
 
-pub integers_all : (z : ℤ) (n : ℕ) → integers_from (z +ℤ pos 0) (n - 0) ≡ integers_from z n
-integers_all z n = let same : n - 0 ≡ n = omega arith in ap (integers_from (z +ℤ pos 0)) same ∙ ap (λ k. integers_from k n) (+ℤ_idr z)
+-- all integers are left at first
+pub integers_all : (z : ℤ) (n : ℕ) → integers_from {H = Things} (z +ℤ pos 0) (n - 0) ≡ integers_from {H = Things} z n
+integers_all z n = let same : n - 0 ≡ n = omega arith in ap (integers_from {H = Things} (z +ℤ pos 0)) same ∙ ap (λ k. integers_from {H = Things} k n) (+ℤ_idr z)
 
-pub integers_over : (z : ℤ) (n i : ℕ) → n ≤ i → integers_from (z +ℤ pos i) (n - i) ≡ none
-integers_over z n i over = let same : n - i ≡ 0 = omega (arith, over) in ap (integers_from (z +ℤ pos i)) same
+-- no integer is left at last
+pub integers_over : (z : ℤ) (n i : ℕ) → n ≤ i → integers_from {H = Things} (z +ℤ pos i) (n - i) ≡ none
+integers_over z n i over = let same : n - i ≡ 0 = omega (arith, over) in ap (integers_from {H = Things} (z +ℤ pos i)) same
 
--- an integer of a row, as it is computed in 64 bits
-pub counted_step : (row : Range) → IsRow row → (i : ℕ) → i < row.count → to_z w64 (of_z w64 (to_z w64 (of_z w64 row.first) +ℤ to_z w64 i)) ≡ row.first +ℤ pos i
-counted_step row h i within =
-    let x = row.first in
-    let some : 0 < row.count = omega (arith, within) in
+-- an integer of a range, as it is computed in 64 bits
+pub counted_step : (range : Range) → IsRange range → (i : ℕ) → i < range.count → to_z w64 (of_z w64 (to_z w64 (of_z w64 range.first) +ℤ to_z w64 i)) ≡ range.first +ℤ pos i
+counted_step range h i within =
+    let x = range.first in
+    let some : 0 < range.count = omega (arith, within) in
     let small : i < 2 ^ 63 = omega (arith, within, h.few) in
     let fit : FitsSigned w64 x = subst (FitsSigned w64) (+ℤ_idr x) (h.within 0 some) in
     ap (λ a. to_z w64 (of_z w64 (a +ℤ to_z w64 i))) (to_z-of_z w64 x fit)

@@ -7,19 +7,21 @@ use Rattle.sg_eval.specs.declared.step_fault.Flow.{Flow}
 use Rattle.sg_eval.specs.declared.step_fault.Flow.TheVariants.{On, Quit}
 use Rattle.sg_eval.specs.declared.step_fault.StepFault.{StepFault}
 use Rattle.sg_eval.specs.declared.step_fault.StepFault.TheVariants.{Script, Write, Memory}
-use Rattle.sg_eval.specs.Process.{gives, ◌>>=◌, Runs, Breaks}
+use Rattle.sg_meaning.specs.Process.{gives, ◌>>=◌, Runs, Breaks}
 use Rattle.sg_eval.specs.State.{State}
-use Rattle.sg_eval.specs.Statements.{on, ended, exec}
+use Rattle.sg_meaning.specs.Statements.{on, ended, exec}
 use Rattle.sg_eval.specs.Steps.{Does, Executed, Executes, is_quit}
 use Rattle.sg_eval.proofs.Blocks.{whole_on, whole_ended}
 use Rattle.sg_eval.proofs.Executing.{append_known-nil}
-use Rattle.sg_eval.proofs.Runs.{runs_then, runs_refused, breaks_in}
+use Rattle.sg_meaning.proofs.Runs.{runs_then, runs_refused, breaks_in}
 
 module _ (c : Code) (s s0 : State) (same : s0.variables ≡ s.variables) where
+  -- the statement ends the run
   pub step_ended : (o : Option (List ℕ)) → is_quit c ≡ true → (gained : List ℕ) × (o ≡ append_known o gained) × Executes (Ok Quit) c s.variables s0.variables gained
   step_ended o is = ([], append_known-nil o, subst (λ p. Runs p s.variables (Ok ended) s0.variables []) (whole_ended c is) (refl, same, refl))
 
   module _ (s1 : State) (o o1 : Option (List ℕ)) (is : is_quit c ≡ false) where
+    -- the statement was done, and the run goes on
     pub step_on : Executed (Ok tt) s0 s1 o o1 (exec c) → (gained : List ℕ) × (o1 ≡ append_known o gained) × Executes (Ok On) c s.variables s1.variables gained
     step_on h = (
       h.gained,
@@ -35,6 +37,7 @@ module _ (c : Code) (s s0 : State) (same : s0.variables ≡ s.variables) where
     refused Write gained h = subst (λ p. Breaks p s0.variables s1.variables gained) (whole_on c is) (breaks_in (exec c) (λ u. gives on) s0.variables s1.variables gained h)
     refused Memory gained h = subst (λ p. Breaks p s0.variables s1.variables gained) (whole_on c is) (breaks_in (exec c) (λ u. gives on) s0.variables s1.variables gained h)
 
+    -- the statement was refused, or left
     pub step_refused : (r : Result Flow StepFault) (e : StepFault) → IsErrAnd r (λ y. y ≡ e) → Executed {A = Unit {0}} (Err e) s0 s1 o o1 (exec c)
         → (gained : List ℕ) × (o1 ≡ append_known o gained) × Executes r c s.variables s1.variables gained
     step_refused r e failed h =

@@ -2,11 +2,11 @@
 use Rattle.std.proofs.Common.{◌≡◌, ◌<◌, ◌+◌, ℕ, List, [], ◌∷◌, ◌++◌, length, get_or, drop, Bool, true, false, Some, None, Result, Ok, Err, IsErrAnd, Vec, Global, refl, ap, sym, ◌∙◌, subst}
 use Rattle.std.proofs.Math.Path.{fun_ext}
 use Rattle.std.proofs.lemmas.List.{drop_more}
-use Rattle.sg_value.specs.Data.{Data, Items, none, item, truth, int, text, list, fail, semigroup, ideal, Kind}
+use Rattle.sg_value.specs.Data.{Data, Items, none, item, truth, int, text, list, fail, semigroup, ideal, Kind, join}
 use Rattle.sg_value.specs.Plain.{Named, AllKnown, AllKnownIn, plain, plain_of_all, Things}
 use Rattle.sg_value.specs.declared.value.Value.{Value}
+use Rattle.sg_value.proofs.Joins.{join-none, join-one}
 use Rattle.sg_rows.specs.Order.{Plain}
-use Rattle.sg_rows.specs.Words.{join}
 use Rattle.sg_rows.specs.declared.fault.CallFault.{CallFault}
 use Rattle.sg_tree.specs.Tree.{Tree, Trees, no_trees, tree, Links, link}
 use Rattle.sg_tree.specs.TreeView.{tree_of, trees_of, links_of}
@@ -15,20 +15,22 @@ use Rattle.sg_tree.specs.declared.expr.Op.{Op}
 use Rattle.sg_tree.specs.declared.expr.Op.TheVariants.{Or, And, Plus, Less, Times, Mod}
 use Rattle.sg_calls.specs.declared.operator.Operator.{Operator}
 use Rattle.sg_calls.specs.declared.operator.Operator.TheVariants as operator
-use Rattle.sg_eval.specs.Expressions.{eval, eval_all, eval_places, eval_links, ask, decided}
+use Rattle.sg_meaning.specs.Expressions.{eval, eval_all, eval_places, eval_links, ask, decided}
 use Rattle.sg_eval.specs.Linked.{linked, placed, ends_chain, arithmetic, compared_with}
 use Rattle.sg_eval.specs.Outcomes.{Evaluates, plain_in, known_in}
-use Rattle.sg_eval.specs.Process.{Process, gives, refuses, reads, asks, sets, writes, ◌>>=◌}
-use Rattle.sg_eval.specs.Queries.{indexes, combines}
+use Rattle.sg_meaning.specs.Process.{Process, gives, refuses, reads, asks, sets, writes, ◌>>=◌}
+use Rattle.sg_meaning.specs.Queries.{indexes, combines}
 use Rattle.sg_eval.specs.State.{State}
 use Rattle.sg_eval.specs.Truths.{itself, no_semigroup}
-use Rattle.sg_eval.specs.Vars.{Vars}
-use Rattle.sg_eval.proofs.Deciding.{assoc}
+use Rattle.sg_meaning.specs.Vars.{Vars}
+use Rattle.sg_meaning.proofs.Sequels.{assoc, right_unit}
 use Rattle.sg_eval.proofs.Evaluating.{evaluates_then, evaluates_exit, evaluates_as}
 
+-- the expressions from one on
 pub trees_of-drop : (es : List Expr) (i : ℕ) (e : Expr) → i < length es → e ≡ get_or es i e → trees_of (drop i es) ≡ tree (tree_of e) (trees_of (drop (i + 1) es))
 trees_of-drop es i e within is = ap trees_of (drop_more es i e within) ∙ ap (λ x. tree (tree_of x) (trees_of (drop (i + 1) es))) (sym is)
 
+-- the links from one on
 pub links_of-drop : (ls : List (Op × Expr)) (i : ℕ) (l : Op × Expr) → i < length ls → l ≡ get_or ls i l → links_of (drop i ls) ≡ link l.0 (tree_of l.1) (links_of (drop (i + 1) ls))
 links_of-drop ls i l within is = ap links_of (drop_more ls i l within) ∙ ap (λ x. link x.0 (tree_of x.1) (links_of (drop (i + 1) ls))) (sym is)
 
@@ -42,6 +44,7 @@ module _ (ps : Vars) (s s1 : State) (t : Tree) (same : s.parameters ≡ ps) wher
       (evaluates_then plain AllKnown plain AllKnown w r s s1 s2 (λ names. placed ps (plain names v) t) (λ names e. eval_places ps e ts)
       (subst (λ qs. Evaluates plain AllKnown (Ok w) s s1 (λ names. placed qs (plain names v) t)) same h) g)
 
+  -- a place that is refused
   pub place_exit : (ts : Trees) (v : Value) (r : Result Value CallFault) (e : CallFault) → IsErrAnd r (λ y. y ≡ e) → Evaluates plain AllKnown (Err e) s s1 (λ names. placed s.parameters (plain names v) t)
       → Evaluates plain AllKnown r s s1 (λ names. eval_places ps (plain names v) (tree t ts))
   place_exit ts v r e failed h =
@@ -50,10 +53,7 @@ module _ (ps : Vars) (s s1 : State) (t : Tree) (same : s.parameters ≡ ps) wher
       (evaluates_exit plain AllKnown plain AllKnown r e s s1 (λ names. placed ps (plain names v) t) (λ names d. eval_places ps d ts) failed
       (subst (λ qs. Evaluates plain AllKnown (Err e) s s1 (λ names. placed qs (plain names v) t)) same h))
 
-pub join-one : {H : Kind → Type 0} (ds : Items H) (d : Data H) (es : Items H) → join (join ds (item d none)) es ≡ join ds (item d es)
-join-one none d es = refl
-join-one (item c ds) d es = ap (item c) (join-one ds d es)
-
+-- the plain values with one more
 pub plain_of_all-more : (names : Named) (vs : List Value) (v : Value) → plain_of_all names (vs ++ v ∷ []) ≡ join (plain_of_all names vs) (item (plain names v) none)
 plain_of_all-more names [] v = refl
 plain_of_all-more names (u ∷ vs) v = ap (item (plain names u)) (plain_of_all-more names vs v)
@@ -79,6 +79,7 @@ module _ (ps : Vars) (s s1 : State) (t : Tree) (ts : Trees) (vs : List Value) (s
       (evaluates_as plain_in known_in r s1 s2 (λ names. after_front ps ts (plain_of_all names ws)) (λ names. after_front ps ts (join (plain_of_all names vs) (item (plain names v) none)))
       (λ names. ap (after_front ps ts) (ap (plain_of_all names) is ∙ plain_of_all-more names vs v)) g))
 
+  -- an expression that is refused
   pub value_exit : (r : Result (Vec Value Global) CallFault) (e : CallFault) → IsErrAnd r (λ y. y ≡ e) → Evaluates plain AllKnown (Err e) s s1 (λ names. eval s.parameters t)
       → Evaluates plain_in known_in r s s1 (λ names. after_front ps (tree t ts) (plain_of_all names vs))
   value_exit r e failed h =
@@ -128,6 +129,7 @@ link_step ps Times t ls d = assoc (eval ps t) (λ e. ask (combines operator.Time
 link_step ps Mod t ls d = assoc (eval ps t) (λ e. ask (combines operator.Mod d e)) (λ s. eval_links ps s ls)
 
 module _ (ps : Vars) (s : State) (op : Op) (t : Tree) (ls : Links) (v : Value) where
+  -- a link is whether it ends the chain, and then the rest
   pub link_as : (r : Result Value CallFault) (s2 : State) → Evaluates plain AllKnown r s s2 (λ names. ends_chain op (plain names v) >>= unless_ended ps op t ls (plain names v)) → Evaluates plain AllKnown r s s2 (λ names. eval_links ps (plain names v) (link op t ls))
   link_as r s2 h = evaluates_as plain AllKnown r s s2 (λ names. ends_chain op (plain names v) >>= unless_ended ps op t ls (plain names v)) (λ names. eval_links ps (plain names v) (link op t ls)) (λ names. link_step ps op t ls (plain names v)) h
 
@@ -140,6 +142,7 @@ module _ (ps : Vars) (s : State) (op : Op) (t : Tree) (ls : Links) (v : Value) w
       (evaluates_then plain AllKnown plain AllKnown w r s s1 s2 (λ names. linked ps op t (plain names v)) (λ names e. eval_links ps e ls)
       (subst (λ qs. Evaluates plain AllKnown (Ok w) s s1 (λ names. linked qs op t (plain names v))) same h) g))
 
+  -- a link that is refused
   pub link_exit : (s1 : State) (r : Result Value CallFault) (e : CallFault) → s.parameters ≡ ps → IsErrAnd r (λ y. y ≡ e) → Evaluates itself no_semigroup (Ok false) s s (λ names. ends_chain op (plain names v))
       → Evaluates plain AllKnown (Err e) s s1 (λ names. linked s.parameters op t (plain names v)) → Evaluates plain AllKnown r s s1 (λ names. eval_links ps (plain names v) (link op t ls))
   link_exit s1 r e same failed goes h =
@@ -147,21 +150,9 @@ module _ (ps : Vars) (s : State) (op : Op) (t : Tree) (ls : Links) (v : Value) w
       (evaluates_exit plain AllKnown plain AllKnown r e s s1 (λ names. linked ps op t (plain names v)) (λ names d. eval_links ps d ls) failed
       (subst (λ qs. Evaluates plain AllKnown (Err e) s s1 (λ names. linked qs op t (plain names v))) same h)))
 
-pub right_unit : {A : Type 0} (p : Process A) → p >>= (λ a. gives a) ≡ p
-right_unit (gives a) = refl
-right_unit (refuses e) = refl
-right_unit (reads x k) = ap (reads x) (fun_ext (λ o. right_unit (k o)))
-right_unit (asks q k) = ap (asks q) (fun_ext (λ r. right_unit (k r)))
-right_unit (sets x d p) = ap (sets x d) (right_unit p)
-right_unit (writes bs p) = ap (writes bs) (right_unit p)
-
 -- no value is before those of the expressions
 pub front_none : (ps : Vars) (ts : Trees) (names : Named) (vs : List Value) → vs ≡ [] → after_front ps ts (plain_of_all names vs) ≡ eval_all ps ts
 front_none ps ts names vs is = ap (λ ws. after_front ps ts (plain_of_all names ws)) is ∙ right_unit (eval_all ps ts)
-
-pub join-none : {H : Kind → Type 0} (ds : Items H) → join ds none ≡ ds
-join-none none = refl
-join-none (item d ds) = ap (item d) (join-none ds)
 
 -- no expression is left
 pub front_over : (names : Named) (vs : List Value) → gives (plain_of_all names vs) ≡ after_front [] no_trees (plain_of_all names vs)
@@ -171,6 +162,7 @@ all_known_after : (names : Named) (vs : List Value) (v : Value) → AllKnownIn n
 all_known_after names [] v all is_known = (is_known, tt)
 all_known_after names (u ∷ vs) v all is_known = (all.0, all_known_after names vs v all.1 is_known)
 
+-- one value more is known
 pub all_known_more : (names : Named) (vs ws : List Value) (v : Value) → ws ≡ vs ++ v ∷ [] → AllKnownIn names vs → AllKnown names v → AllKnownIn names ws
 all_known_more names vs ws v is all is_known = subst (AllKnownIn names) (sym is) (all_known_after names vs v all is_known)
 
@@ -183,6 +175,7 @@ link_rest Less d e = ask (combines operator.Less d e)
 link_rest Times d e = ask (combines operator.Times d e)
 link_rest Mod d e = ask (combines operator.Mod d e)
 
+-- a link is its operand, and then what comes of it
 pub linked_as : (ps : Vars) (op : Op) (t : Tree) (d : Plain) → eval ps t >>= link_rest op d ≡ linked ps op t d
 linked_as ps Or t d = refl
 linked_as ps And t d = refl
@@ -191,6 +184,7 @@ linked_as ps Less t d = refl
 linked_as ps Times t d = refl
 linked_as ps Mod t d = refl
 
+-- an operator on integers
 pub linked_combines : (ps : Vars) (op : Op) (o : Operator) (t : Tree) (d : Plain) → arithmetic op ≡ Some o → compared_with ps o d t ≡ linked ps op t d
 linked_combines ps Or o t d is = absurd (cc)
 linked_combines ps And o t d is = absurd (cc)
@@ -199,6 +193,7 @@ linked_combines ps Less o t d is = let same : o ≡ operator.Less = cc in ap (λ
 linked_combines ps Times o t d is = let same : o ≡ operator.Times = cc in ap (λ x. compared_with ps x d t) same
 linked_combines ps Mod o t d is = let same : o ≡ operator.Mod = cc in ap (λ x. compared_with ps x d t) same
 
+-- or and and want a truth value
 pub rest_decides : (op : Op) (d e : Plain) → arithmetic op ≡ None → decided e (λ b. gives e) ≡ link_rest op d e
 rest_decides Or d e is = refl
 rest_decides And d e is = refl

@@ -8,10 +8,10 @@ use Rattle.sg_calls.specs.Operations.{operation}
 use Rattle.sg_calls.specs.declared.operator.Operator.{Operator}
 use Rattle.sg_tree.specs.declared.expr.Op.{Op}
 use Rattle.sg_tree.specs.declared.expr.Rel.{Rel}
-use Rattle.sg_eval.specs.Expressions.{relation}
+use Rattle.sg_meaning.specs.Expressions.{relation}
 use Rattle.sg_eval.specs.Linked.{arithmetic}
 use Rattle.sg_eval.specs.Outcomes.{Evaluates}
-use Rattle.sg_eval.specs.Process.{Process}
+use Rattle.sg_meaning.specs.Process.{Process}
 use Rattle.sg_eval.specs.State.{State}
 
 -- a process gives this integer, over a machine as it is

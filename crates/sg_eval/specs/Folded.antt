@@ -1,18 +1,18 @@
 -- A command with an arrow, entry by entry.
 use Rattle.std.specs.Prelude.{Bool, true, false, not, pos, Option, Some, None, ◌∷◌, if◌then◌else◌}
 use Rattle.sg_value.specs.Plain.{Things}
-use Rattle.sg_value.specs.Data.{Data, int, truth, text, list, fail, semigroup, ideal, Items, none, item, Kind}
+use Rattle.sg_value.specs.Data.{Data, int, truth, text, list, fail, semigroup, ideal, Items, none, item, Kind, join}
 use Rattle.sg_tree.specs.Tree.{Argument, plain as plain_argument, arrow}
 use Rattle.sg_rows.specs.declared.fault.Fault.TheVariants.{WrongType}
 use Rattle.sg_rows.specs.Kinds.{as_list}
 use Rattle.sg_rows.specs.Order.{Plain}
-use Rattle.sg_rows.specs.Words.{entry_count, join}
-use Rattle.sg_eval.specs.declared.folding.Folding.{Folding}
-use Rattle.sg_eval.specs.declared.folding.Folding.TheVariants.{EachValue, ThoseTrue, AllTrue, AnyTrue, CountTrue}
-use Rattle.sg_eval.specs.Expressions.{eval, folded, decided, listed, ask}
-use Rattle.sg_eval.specs.Process.{Process, gives, refuses, ◌>>=◌}
-use Rattle.sg_eval.specs.Queries.{lists}
-use Rattle.sg_eval.specs.Vars.{Vars}
+use Rattle.sg_rows.specs.Entries.{entry_count}
+use Rattle.sg_calls.specs.declared.command.Folding.{Folding}
+use Rattle.sg_calls.specs.declared.command.Folding.TheVariants.{EachValue, ThoseTrue, AllTrue, AnyTrue, CountTrue}
+use Rattle.sg_meaning.specs.Expressions.{eval, folded, decided, listed, ask}
+use Rattle.sg_meaning.specs.Process.{Process, gives, refuses, ◌>>=◌}
+use Rattle.sg_meaning.specs.Queries.{lists}
+use Rattle.sg_meaning.specs.Vars.{Vars}
 
 -- whether the value is the truth value true
 abbrev pub is_true : {H : Kind → Type 0} → Data H → Bool

@@ -6,10 +6,10 @@ use Rattle.sg_value.specs.Plain.{Named, AllKnown, plain, Things}
 use Rattle.sg_value.specs.declared.value.Value.{Value}
 use Rattle.sg_tree.specs.Tree.{Argument, plain as plain_argument, arrow}
 use Rattle.sg_rows.specs.Order.{Plain}
-use Rattle.sg_eval.specs.Expressions.{eval}
+use Rattle.sg_meaning.specs.Expressions.{eval}
 use Rattle.sg_eval.specs.Outcomes.{plain_in, known_in}
-use Rattle.sg_eval.specs.Process.{Process, gives, ◌>>=◌}
-use Rattle.sg_eval.specs.Vars.{Vars}
+use Rattle.sg_meaning.specs.Process.{Process, gives, ◌>>=◌}
+use Rattle.sg_meaning.specs.Vars.{Vars}
 
 abbrev pub plain_if : Named → Option Value → Option Plain
 plain_if names None = None

@@ -6,10 +6,10 @@ use Rattle.sg_tree.specs.declared.expr.Op.TheVariants.{Or, And, Plus, Less, Time
 use Rattle.sg_calls.specs.declared.operator.Operator.{Operator}
 use Rattle.sg_calls.specs.declared.operator.Operator.TheVariants as operator
 use Rattle.sg_rows.specs.Order.{Plain}
-use Rattle.sg_eval.specs.Expressions.{eval, decided, ask}
-use Rattle.sg_eval.specs.Process.{Process, gives, ◌>>=◌}
-use Rattle.sg_eval.specs.Queries.{combines, indexes}
-use Rattle.sg_eval.specs.Vars.{Vars}
+use Rattle.sg_meaning.specs.Expressions.{eval, decided, ask}
+use Rattle.sg_meaning.specs.Process.{Process, gives, ◌>>=◌}
+use Rattle.sg_meaning.specs.Queries.{combines, indexes}
+use Rattle.sg_meaning.specs.Vars.{Vars}
 
 -- whether the value before an operator ends the chain
 abbrev pub ends_chain : Op → Plain → Process Bool

@@ -10,9 +10,9 @@ use Rattle.sg_store.specs.Interned.{Keeps}
 use Rattle.sg_rows.specs.declared.fault.CallFault.{CallFault}
 use Rattle.sg_rows.specs.declared.fault.CallFault.TheVariants.{Script, Memory}
 use Rattle.sg_rows.specs.Order.{Plain}
-use Rattle.sg_eval.specs.Process.{Process, Runs}
+use Rattle.sg_meaning.specs.Process.{Process, Runs}
 use Rattle.sg_eval.specs.State.{State}
-use Rattle.sg_eval.specs.Vars.{Vars}
+use Rattle.sg_meaning.specs.Vars.{Vars}
 
 -- values by their plain values
 abbrev pub plain_in : Named → Vec Value Global → Items Things

@@ -4,7 +4,7 @@ use Rattle.sg_value.specs.Known.{Known, named}
 use Rattle.std.specs.Global.{Global}
 use Rattle.sg_value.specs.declared.value.Value.{Value}
 use Rattle.sg_value.specs.Plain.{plain, AllKnown}
-use Rattle.sg_eval.specs.Vars.{Vars}
+use Rattle.sg_meaning.specs.Vars.{Vars}
 use Rattle.sg_eval.specs.declared.variable.Variable.{Variable}
 
 -- each name with its plain value

@@ -1,10 +1,10 @@
 -- What a step of the machine did.
-use Rattle.std.specs.Prelude.{◌≡◌, ℕ, Bool, true, false, List, [], codes, Option, Some, None, Result, Ok, Err, OnOk, if◌then◌else◌, ⊤}
+use Rattle.std.specs.Prelude.{◌≡◌, ℕ, Bool, true, false, List, [], Option, Some, None, Result, Ok, Err, OnOk, if◌then◌else◌, ⊤}
 use Rattle.sg_value.specs.Plain.{Things}
 use Rattle.std.specs.Io.KnownBytes.{append_known}
-use Rattle.std.specs.Str.{bytes_eq}
 use Rattle.sg_value.specs.Data.{Items}
 use Rattle.sg_rows.specs.Kinds.{as_list}
+use Rattle.sg_calls.specs.Commands.{word_named}
 use Rattle.sg_tree.specs.Tree.{Tree, number, quoted, truth, failing, variable, call, display, span, minus, negation, chain, compare, item as item_tree, Arguments, Code, nothing, quit, assign, choose, each, perform, Arms, no_arms, arm}
 use Rattle.sg_store.specs.Interned.{Keeps}
 use Rattle.sg_rows.specs.declared.fault.CallFault.{CallFault}
@@ -13,11 +13,11 @@ use Rattle.sg_eval.specs.declared.step_fault.Flow.{Flow}
 use Rattle.sg_eval.specs.declared.step_fault.Flow.TheVariants.{On, Quit}
 use Rattle.sg_eval.specs.declared.step_fault.StepFault.{StepFault}
 use Rattle.sg_eval.specs.declared.step_fault.StepFault.TheVariants.{Script, Write, Memory}
-use Rattle.sg_eval.specs.Expressions.{eval, eval_given, decided, listed}
-use Rattle.sg_eval.specs.Process.{Process, gives, ◌>>=◌, Runs, Breaks}
+use Rattle.sg_meaning.specs.Expressions.{eval, eval_given, decided, listed}
+use Rattle.sg_meaning.specs.Process.{Process, gives, ◌>>=◌, Runs, Breaks}
 use Rattle.sg_eval.specs.State.{State}
-use Rattle.sg_eval.specs.Statements.{on, ended, whole, exec_all, printed}
-use Rattle.sg_eval.specs.Vars.{Vars}
+use Rattle.sg_meaning.specs.Statements.{on, ended, whole, exec_all, is_print, printed}
+use Rattle.sg_meaning.specs.Vars.{Vars}
 
 -- a step over a statement: it ended, with these variables and this text, or it was left at some point
 abbrev pub Executes : Result Flow StepFault → Code → Vars → Vars → List ℕ → Type 0
@@ -67,7 +67,7 @@ printing true args = Some args
 printing false args = None
 
 abbrev pub printed_arguments : Tree → Option Arguments
-printed_arguments (call name args) = printing (bytes_eq name (codes "Print")) args
+printed_arguments (call name args) = printing (is_print (word_named name)) args
 printed_arguments (number z) = None
 printed_arguments (quoted bs) = None
 printed_arguments (truth b) = None

@@ -6,28 +6,23 @@ ghost use Rattle.std.specs.Prelude.{◌≡◌, ℕ, List, Option, Some, None, Ma
 ghost use Rattle.sg_value.specs.Plain.{AllKnown, AllKnownIn, contents, contents_of_all, plain, plain_of_all};
 ghost use Rattle.sg_value.specs.Data.{list, text, truth};
 ghost use Rattle.sg_rows.specs.Kinds.{as_list};
-ghost use Rattle.sg_eval.specs.Queries.{lists, negates, indexes, spans, span_count};
-ghost use Rattle.sg_eval.specs.Expressions.{ask, decided, listed};
-ghost use Rattle.sg_eval.specs.Process.{gives};
+ghost use Rattle.sg_meaning.specs.Queries.{lists, negates, indexes, spans, span_count};
+ghost use Rattle.sg_meaning.specs.Expressions.{ask, decided, listed};
+ghost use Rattle.sg_meaning.specs.Process.{gives};
 ghost use Rattle.sg_eval.specs.Truths.{itself, no_semigroup};
-ghost use Rattle.sg_eval.specs.Entries.{entry_from, as_natural, integers_in};
-ghost use Rattle.sg_eval.specs.Ranges.{IsRow, list_of_row, is_row, ranged, entries_in, are_known};
+ghost use Rattle.sg_meaning.specs.Entries.{entry_at, as_natural, integers_from};
+ghost use Rattle.sg_eval.specs.Ranges.{IsRange, list_of_range, is_range, ranged, entries_in, are_known};
 ghost use Rattle.sg_eval.specs.State.{State};
 ghost use Rattle.sg_eval.specs.Outcomes.{Evaluates, plain_items, known_items};
 
-use crate::entries::{Entries, Range};
-use crate::kinds::{entries_of, integer_of, into_entries, truth_of};
+use crate::kinds::{into_entries, truth_of};
+use crate::sequence::{Range, Sequence};
 use sg_calls::{CallFault, Fault, negate};
 use sg_nat::Bytes;
-use sg_value::{Items, Value, depth, try_clone, weight};
+use sg_rows::{entries_of, integer_of};
+use sg_value::{Items, NESTING_LIMIT, Value, WEIGHT_LIMIT, depth, try_clone, weight};
 use std::alloc::{AllocError, Global};
 use std::rc::Rc;
-
-/// How deep lists may nest.
-const DEPTH_LIMIT: u64 = 64;
-
-/// How heavy a list may be.
-const WEIGHT_LIMIT: u64 = 4_194_304;
 
 /// The text of these bytes.
 pub fn text_of(alloc: Global, bytes: &Bytes) -> Result<Value, AllocError>
@@ -41,7 +36,7 @@ pub fn list_of(alloc: Global, values: Vec<Value>) -> Result<Value, CallFault>
     ensures { (s : State) → AllKnownIn (named s.names) values.items → Evaluates plain AllKnown result s s (λ names. ask (lists (plain_of_all names values.items))) }
 {
     let list = Value::List(Items::from_vec(alloc, values)?);
-    if depth(&list) > DEPTH_LIMIT {
+    if depth(&list) > NESTING_LIMIT {
         return Err(CallFault::Script(Fault::Depth));
     }
     if weight(&list) > WEIGHT_LIMIT {
@@ -89,7 +84,7 @@ fn natural_of(z: i64) -> Option<u64>
 
 /// The entry at a place, counted from 1 on.
 fn entry_at(entries: &[Value], place: u64) -> Option<&Value>
-    ensures { MatchOption result (entry_from (contents_of_all entries.now) place ≡ None) (λ v. entry_from (contents_of_all entries.now) place ≡ Some (contents v.now)) }
+    ensures { MatchOption result (entry_at (contents_of_all entries.now) place ≡ None) (λ v. entry_at (contents_of_all entries.now) place ≡ Some (contents v.now)) }
 {
     if place == 0 {
         return None;
@@ -130,9 +125,9 @@ pub fn put(values: &mut Vec<Value>, value: Value) -> Result<(), AllocError>
 }
 
 /// The integers from the first to the second, within the limits.
-fn row(low: &Value, high: &Value) -> Result<Range, CallFault>
-    ensures within { IfOk result IsRow }
-    ensures row { (s : State) → Evaluates list_of_row is_row result s s (λ names. ask (spans (plain names low.now) (plain names high.now))) }
+fn range_between(low: &Value, high: &Value) -> Result<Range, CallFault>
+    ensures within { IfOk result IsRange }
+    ensures asked { (s : State) → Evaluates list_of_range is_range result s s (λ names. ask (spans (plain names low.now) (plain names high.now))) }
 {
     let Some(first) = integer_of(low) else {
         return Err(CallFault::Script(Fault::WrongType));
@@ -151,16 +146,16 @@ fn row(low: &Value, high: &Value) -> Result<Range, CallFault>
 pub fn span(alloc: Global, low: &Value, high: &Value) -> Result<Value, CallFault>
     ensures { (s : State) → Evaluates plain AllKnown result s s (λ names. ask (spans (plain names low.now) (plain names high.now))) }
 {
-    let range = row(low, high)?;
+    let range = range_between(low, high)?;
     let integers = integers_from(alloc, range.first, range.count)?;
     Ok(Value::List(Items::from_vec(alloc, integers)?))
 }
 
 /// The same integers, as what a loop goes over.
-pub fn range(low: &Value, high: &Value) -> Result<Entries, CallFault>
+pub fn range(low: &Value, high: &Value) -> Result<Sequence, CallFault>
     ensures { (s : State) → Evaluates entries_in are_known result s s (λ names. ranged (plain names low.now) (plain names high.now)) }
 {
-    Ok(Entries::Counted(row(low, high)?))
+    Ok(Sequence::Counted(range_between(low, high)?))
 }
 
 /// How many integers there are from the first to the last, 2^64 - 1 where there are more.
@@ -176,8 +171,8 @@ fn count_between(first: i64, last: i64) -> u64
 /// So many integers from the first on.
 fn integers_from(alloc: Global, first: i64, count: u64) -> Result<Vec<Value>, AllocError>
     requires within { (i : ℕ) → i < count → FitsSigned w64 (first +ℤ pos i) }
-    requires small { count < 4194304 }
-    ensures { IfOk result (λ vs. contents_of_all vs.items ≡ integers_in first count) }
+    requires small { count < WEIGHT_LIMIT }
+    ensures { IfOk result (λ vs. contents_of_all vs.items ≡ integers_from first count) }
 {
     let mut values = Vec::with_capacity(alloc, count as usize)?;
     for i in 0..count {

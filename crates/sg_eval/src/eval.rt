@@ -5,7 +5,7 @@ ghost use Rattle.sg_value.specs.Known.{named};
 ghost use Rattle.sg_value.specs.Plain.{AllKnown, AllKnownIn, plain, plain_of_all, Plain};
 ghost use Rattle.sg_tree.specs.TreeView.{tree_of, trees_of, links_of, argument_of, arguments_of};
 ghost use Rattle.sg_tree.specs.Tree.{display as displayed, call as called, minus as minus_tree, negation as not_tree};
-ghost use Rattle.sg_eval.specs.Expressions.{eval as meaning, eval_all as meaning_of_all, eval_places, eval_links, eval_given, eval_folding};
+ghost use Rattle.sg_meaning.specs.Expressions.{eval as meaning, eval_all as meaning_of_all, eval_places, eval_links, eval_given, eval_folding, answered, argument_count};
 ghost use Rattle.sg_eval.specs.Folded.{fold_on};
 ghost use Rattle.sg_eval.specs.Given.{plain_if, known_if, plain_where, known_where, eval_argument};
 ghost use Rattle.sg_value.specs.Data.{none};
@@ -14,13 +14,13 @@ ghost use Rattle.sg_eval.specs.Outcomes.{Evaluates, plain_in, known_in};
 ghost use Rattle.sg_eval.specs.Machine.{state_of};
 
 use crate::answers::{index, list_of, put, span, text_of};
-use crate::folding::{Folding, entries_if, finished, folding_named, gather, goes_on};
+use crate::folding::{entries_if, finished, gather, goes_on};
 use crate::given::with_one;
 use crate::integers::{integer, truth};
 use crate::links::{ends_chain, operator_of, relation_of, truth_itself};
 use crate::machine::Machine;
 use crate::signs::{negated, turned};
-use sg_calls::{CallFault, Fault, Operator, check_call};
+use sg_calls::{CallFault, Command, Fault, Folding, Operator, Word, takes, word_named};
 use sg_nat::Bytes;
 use sg_tree::{Arg, Expr, Op};
 use sg_value::{Value, try_clone};
@@ -60,7 +60,7 @@ fn eval_any(alloc: Global, machine: &mut Machine, e: &Expr) -> Result<Value, Cal
             span(alloc, &a, &b)
         }
         Expr::Item(list, places) => {
-            let value = eval(alloc, machine, list)?;
+            let value = eval_any(alloc, machine, list)?;
             item(alloc, machine, places, value)
         }
         Expr::Minus(count, operand) => minus_of(alloc, machine, operand, *count),
@@ -109,14 +109,29 @@ fn not_of(
 fn call(alloc: Global, machine: &mut Machine, args: &[Arg], name: &[u8]) -> Result<Value, CallFault>
     ensures { Evaluates plain AllKnown result (state_of machine.old) (state_of machine.new) (λ names. meaning (state_of machine.old).parameters (called name.now (arguments_of args.now))) }
 {
-    if let Some(fold) = folding_named(name) {
-        return fold_call(alloc, machine, args, fold);
+    match word_named(name) {
+        Some(Word::Command(command)) => command_call(alloc, machine, args, command),
+        Some(Word::Arrow(fold)) => fold_call(alloc, machine, args, fold),
+        Some(Word::Print) => Err(CallFault::Script(Fault::UnknownName)),
+        None => Err(CallFault::Script(Fault::UnknownName)),
     }
-    if let Some(fault) = check_call(name, args.len()) {
-        return Err(CallFault::Script(fault));
+}
+
+/// What a command of values gives of its arguments.
+#[cycle(eval)]
+fn command_call(
+    alloc: Global,
+    machine: &mut Machine,
+    args: &[Arg],
+    command: Command,
+) -> Result<Value, CallFault>
+    ensures { Evaluates plain AllKnown result (state_of machine.old) (state_of machine.new) (λ names. answered command (argument_count (arguments_of args.now)) (eval_given (state_of machine.old).parameters (arguments_of args.now))) }
+{
+    if !takes(command, args.len()) {
+        return Err(CallFault::Script(Fault::WrongCount));
     }
     match given(alloc, machine, args)? {
-        Some(values) => machine.call(alloc, name, &values),
+        Some(values) => machine.call(alloc, command, &values),
         None => Err(CallFault::Script(Fault::WrongType)),
     }
 }

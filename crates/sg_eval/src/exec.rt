@@ -7,23 +7,24 @@ ghost use Rattle.sg_io.specs.Faults.{AppendsFront, HasCauseAt};
 ghost use Rattle.sg_value.specs.Plain.{AllKnown, AllKnownIn, plain, plain_of_all};
 ghost use Rattle.sg_tree.specs.TreeView.{tree_of, code_of, block_of, arms_of, arguments_of};
 ghost use Rattle.sg_tree.specs.Tree.{assign as assigning};
-ghost use Rattle.sg_eval.specs.Process.{sets};
-ghost use Rattle.sg_eval.specs.Statements.{exec as meaning, exec_all as meaning_of_all, done, over};
+ghost use Rattle.sg_meaning.specs.Process.{sets};
+ghost use Rattle.sg_calls.specs.Commands.{word_named};
+ghost use Rattle.sg_meaning.specs.Statements.{exec as meaning, exec_all as meaning_of_all, done, is_print, over};
 ghost use Rattle.sg_eval.specs.Steps.{Executed, arm_done, held, listed_of, print_done, printed_arguments, IsOutside, IsInside};
 ghost use Rattle.sg_eval.specs.Outcomes.{Evaluates};
-ghost use Rattle.sg_eval.specs.Queries.{integers_from};
-ghost use Rattle.sg_eval.specs.Ranges.{IsRow, entries_in, are_known};
+ghost use Rattle.sg_meaning.specs.Entries.{integers_from};
+ghost use Rattle.sg_eval.specs.Ranges.{IsRange, entries_in, are_known};
 ghost use Rattle.sg_eval.specs.Truths.{itself, no_semigroup};
 ghost use Rattle.sg_eval.specs.Machine.{state_of};
 
 use crate::answers::{decide, entries, range};
-use crate::entries::{Entries, Range};
 use crate::eval::{eval, given};
 use crate::growth::{grow, others_onto};
 use crate::integers::integer;
 use crate::machine::Machine;
+use crate::sequence::{Range, Sequence};
 use crate::step_fault::StepFault;
-use sg_calls::{CallFault, Fault};
+use sg_calls::{CallFault, Fault, Word, word_named};
 use sg_io::{Sink, SinkFault, write_whole};
 use sg_nat::Bytes;
 use sg_tree::{Arg, Expr, Stmt};
@@ -55,8 +56,8 @@ pub fn exec<W: Sink>(
         }
         Stmt::For(name, e, body) => {
             match list_of(alloc, machine, e)? {
-                Entries::Listed(list) => repeat(alloc, machine, body, name, list.as_slice(), out),
-                Entries::Counted(range) => count_up(alloc, machine, body, name, range, out),
+                Sequence::Listed(list) => repeat(alloc, machine, body, name, list.as_slice(), out),
+                Sequence::Counted(range) => count_up(alloc, machine, body, name, range, out),
             }
         }
         Stmt::Do(e) => perform(alloc, machine, e, out),
@@ -138,7 +139,7 @@ fn count_up<W: Sink>(
     out: &mut W,
 ) -> Result<(), StepFault>
     requires parameters { (state_of machine.old).parameters ≡ [] }
-    requires range { IsRow range }
+    requires range { IsRange range }
     ensures done { Executed result (state_of machine.old) (state_of machine.new) (W.taken out.old) (W.taken out.new) (over (λ e. sets name.now e (meaning_of_all (block_of body.now))) (integers_from range.first range.count)) }
     ensures cause { HasCauseAt StepFault.Write (W.faults out.old) (W.faults out.new) result }
     ensures sure { W.sure out.new ≡ W.sure out.old }
@@ -177,7 +178,7 @@ fn holds(alloc: Global, machine: &mut Machine, test: &Expr) -> Result<bool, Call
 }
 
 /// The entries of a list.
-fn list_of(alloc: Global, machine: &mut Machine, e: &Expr) -> Result<Entries, CallFault>
+fn list_of(alloc: Global, machine: &mut Machine, e: &Expr) -> Result<Sequence, CallFault>
     ensures { Evaluates entries_in are_known result (state_of machine.old) (state_of machine.new) (λ names. listed_of (state_of machine.old).parameters (tree_of e.now)) }
 {
     if let Expr::Span(low, high) = e {
@@ -186,7 +187,17 @@ fn list_of(alloc: Global, machine: &mut Machine, e: &Expr) -> Result<Entries, Ca
         return range(&a, &b);
     }
     let value = eval(alloc, machine, e)?;
-    Ok(Entries::Listed(entries(value)?))
+    Ok(Sequence::Listed(entries(value)?))
+}
+
+/// Whether the name stands for the statement that prints.
+fn is_print(name: &[u8]) -> bool
+    ensures { result ≡ is_print (word_named name.now) }
+{
+    match word_named(name) {
+        Some(Word::Print) => true,
+        Some(Word::Arrow(_)) | Some(Word::Command(_)) | None => false,
+    }
 }
 
 /// The arguments of a call of `Print`.
@@ -195,7 +206,7 @@ fn printed_arguments(e: &Expr) -> Option<&[Arg]>
 {
     match e {
         Expr::Call(name, args) => {
-            if name.as_slice() == b"Print".as_slice() {
+            if is_print(name.as_slice()) {
                 return Some(args.as_slice());
             }
             None

@@ -3,56 +3,18 @@
 ghost use Rattle.std.specs.Prelude.{◌≡◌, OnOk, IfOk, slice_get};
 ghost use Rattle.sg_value.specs.Known.{named};
 ghost use Rattle.sg_value.specs.Plain.{AllKnown, AllKnownIn, contents, contents_of_all, plain, plain_of_all};
-ghost use Rattle.sg_rows.specs.Words.{join};
-ghost use Rattle.sg_eval.specs.Expressions.{folding_named};
+ghost use Rattle.sg_value.specs.Data.{join};
 ghost use Rattle.sg_eval.specs.Folded.{goes_on, gathered_at, finished, is_true, listed_if};
 ghost use Rattle.sg_eval.specs.Given.{plain_if, known_if};
-ghost use Rattle.sg_eval.specs.Process.{gives};
+ghost use Rattle.sg_meaning.specs.Process.{gives};
 ghost use Rattle.sg_eval.specs.State.{State};
 ghost use Rattle.sg_eval.specs.Truths.{itself, no_semigroup};
 ghost use Rattle.sg_eval.specs.Outcomes.{Evaluates, plain_items, known_items};
 
 use crate::answers::{decide, entries, list_of, put};
-use sg_calls::{CallFault, Fault};
+use sg_calls::{CallFault, Fault, Folding};
 use sg_value::{Items, Value, try_clone};
 use std::alloc::{AllocError, Global};
-
-/// What is done with the values that an arrow gives.
-#[derive(Clone, Copy)]
-pub enum Folding {
-    /// The list of all values.
-    EachValue,
-    /// The list of the entries of which the value is true.
-    ThoseTrue,
-    /// Whether all values are true.
-    AllTrue,
-    /// Whether one value is true.
-    AnyTrue,
-    /// How many values are true.
-    CountTrue,
-}
-
-/// The command of this name, if it takes an arrow.
-pub fn folding_named(name: &[u8]) -> Option<Folding>
-    ensures { result ≡ folding_named name.now }
-{
-    if name == b"List".as_slice() {
-        return Some(Folding::EachValue);
-    }
-    if name == b"Filtered".as_slice() {
-        return Some(Folding::ThoseTrue);
-    }
-    if name == b"ForAll".as_slice() {
-        return Some(Folding::AllTrue);
-    }
-    if name == b"ForAny".as_slice() {
-        return Some(Folding::AnyTrue);
-    }
-    if name == b"Number".as_slice() {
-        return Some(Folding::CountTrue);
-    }
-    None
-}
 
 /// Whether the value is the truth value `true`.
 fn is_true(v: &Value) -> bool

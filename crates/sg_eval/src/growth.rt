@@ -3,7 +3,7 @@
 ghost use Rattle.std.specs.Prelude.{◌≡◌, IsTrue, IfSome, IfErr, ℕ, List, Option, [], slice_get};
 ghost use Rattle.sg_tree.specs.Tree.{argument, assign as assigning, variable, plain as plain_argument};
 ghost use Rattle.sg_tree.specs.TreeView.{tree_of, argument_of, arguments_of};
-ghost use Rattle.sg_eval.specs.Statements.{exec as meaning};
+ghost use Rattle.sg_meaning.specs.Statements.{exec as meaning};
 ghost use Rattle.sg_eval.specs.Growth.{onto};
 ghost use Rattle.sg_eval.specs.Machine.{state_of};
 ghost use Rattle.sg_eval.specs.Steps.{Executed, IsInside};

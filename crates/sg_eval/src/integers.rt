@@ -7,11 +7,14 @@ ghost use Rattle.std.specs.Prelude.{IfSome, slice_get};
 ghost use Rattle.sg_tree.specs.TreeView.{tree_of, links_of};
 ghost use Rattle.sg_tree.specs.Tree.{chain as chain_tree};
 ghost use Rattle.sg_eval.specs.AtOnce.{GivesInteger, GivesTruth, Calculates, Compares};
-ghost use Rattle.sg_eval.specs.Expressions.{eval as meaning};
+ghost use Rattle.sg_meaning.specs.Expressions.{eval as meaning};
 ghost use Rattle.sg_eval.specs.Machine.{state_of};
 
+use crate::links::operator_of;
 use crate::machine::Machine;
+use sg_calls::calculate;
 use sg_tree::{Expr, Op, Rel};
+use sg_value::Value;
 
 /// The integer that an operand is, where it is a number or the name of an integer.
 #[inline(always)]
@@ -25,27 +28,14 @@ fn operand(machine: &Machine, e: &Expr) -> Option<i64>
     }
 }
 
-/// The remainder that is not negative, where there is one.
-fn remainder(x: i64, y: i64) -> Option<i64>
-    ensures { IfSome result (Calculates Op.Mod x y) }
-{
-    if y == 0 {
-        return None;
-    }
-    Some(x.wrapping_rem_euclid(y))
-}
-
 /// What an operator of a chain gives of two integers, where that is an integer.
 #[inline(always)]
 fn calculated(op: Op, x: i64, y: i64) -> Option<i64>
     ensures { IfSome result (Calculates op x y) }
 {
-    match op {
-        Op::Plus => x.checked_add(y),
-        Op::Less => x.checked_sub(y),
-        Op::Times => x.checked_mul(y),
-        Op::Mod => remainder(x, y),
-        Op::Or | Op::And => None,
+    match calculate(operator_of(op)?, x, y) {
+        Ok(Value::Int(z)) => Some(z),
+        _ => None,
     }
 }
 

@@ -1,11 +1,10 @@
 //! The operators of chains and comparisons.
 
-ghost use Rattle.std.specs.Prelude.{◌≡◌};
+ghost use Rattle.std.specs.Prelude.{◌≡◌, slice_get};
 ghost use Rattle.sg_value.specs.Known.{named};
 ghost use Rattle.sg_value.specs.Plain.{plain, AllKnown};
-ghost use Rattle.std.specs.Prelude.{slice_get};
-ghost use Rattle.sg_eval.specs.Expressions.{relation, decided};
-ghost use Rattle.sg_eval.specs.Process.{gives};
+ghost use Rattle.sg_meaning.specs.Expressions.{relation, decided};
+ghost use Rattle.sg_meaning.specs.Process.{gives};
 ghost use Rattle.sg_eval.specs.Linked.{ends_chain, arithmetic};
 ghost use Rattle.sg_eval.specs.State.{State};
 ghost use Rattle.sg_eval.specs.Truths.{itself, no_semigroup};

@@ -5,12 +5,12 @@ ghost use Rattle.sg_value.specs.Data.{semigroups};
 ghost use Rattle.sg_value.specs.Known.{named};
 ghost use Rattle.sg_eval.specs.KnownFacts.{are_known-prop};
 
-use crate::kinds::integer_of;
 use crate::variable::{Variable, find};
 use crate::variables::{Variables, find_in, grow, set, set_integer, value_of};
 use indexmap::IndexMap;
-use sg_calls::{CallFault, Operator, answer, combine};
+use sg_calls::{CallFault, Command, Operator, combine, perform};
 use sg_nat::Bytes;
+use sg_rows::integer_of;
 use sg_store::Store;
 use sg_value::{Value, print_into, try_clone};
 use std::alloc::{AllocError, Global};
@@ -26,16 +26,16 @@ pub struct Machine {
 }
 
 impl Machine {
-    ghost use Rattle.std.specs.Prelude.{◌≡◌, ◌∷◌, ◌++◌, ℕ, List, [], None, length, slice_get, IfOk, IfSome, OnOk, OnErr};
+    ghost use Rattle.std.specs.Prelude.{◌≡◌, ◌∷◌, ◌++◌, ℕ, List, [], true, length, slice_get, IfOk, IfSome, OnOk, OnErr};
     ghost use Rattle.std.specs.Map.{lookup};
     ghost use Rattle.std.specs.Str.{bytes_eq};
     ghost use Rattle.sg_value.specs.Plain.{AllKnown, AllKnownIn, plain, plain_of_all};
-    ghost use Rattle.sg_calls.specs.Commands.{checked};
+    ghost use Rattle.sg_calls.specs.Commands.{takes};
     ghost use Rattle.sg_rows.specs.Order.{Plain};
-    ghost use Rattle.sg_eval.specs.Vars.{Vars, with_value};
-    ghost use Rattle.sg_eval.specs.Statements.{texts_of};
-    ghost use Rattle.sg_eval.specs.Queries.{calls, combines};
-    ghost use Rattle.sg_eval.specs.Expressions.{looked_up, ask};
+    ghost use Rattle.sg_meaning.specs.Vars.{Vars, with_value};
+    ghost use Rattle.sg_meaning.specs.Statements.{texts_of};
+    ghost use Rattle.sg_meaning.specs.Queries.{calls, combines};
+    ghost use Rattle.sg_meaning.specs.Expressions.{looked_up, ask};
     ghost use Rattle.sg_eval.specs.Outcomes.{Evaluates, Finds};
     ghost use Rattle.sg_eval.specs.Growth.{Grows, joined_onto};
     ghost use Rattle.sg_eval.specs.Machine.{state_of};
@@ -82,18 +82,18 @@ impl Machine {
         Ok(())
     }
 
-    /// What a command answers.
+    /// What a command of values answers.
     pub fn call(
         &mut self,
         alloc: Global,
-        command: &[u8],
+        command: Command,
         args: &[Value],
     ) -> Result<Value, CallFault>
-        requires checked { checked command.now (length args.now) ≡ None }
+        requires count { takes command (length args.now) ≡ true }
         requires known { AllKnownIn (named (state_of self.old).names) args.now }
-        ensures { Evaluates plain AllKnown result (state_of self.old) (state_of self.new) (λ names. ask (calls command.now (plain_of_all names args.now))) }
+        ensures { Evaluates plain AllKnown result (state_of self.old) (state_of self.new) (λ names. ask (calls command (plain_of_all names args.now))) }
     {
-        answer(alloc, &mut self.store, command, args)
+        perform(alloc, &mut self.store, command, args)
     }
 
     /// What an operator gives.

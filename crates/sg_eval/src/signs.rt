@@ -4,8 +4,8 @@ ghost use Rattle.std.specs.Prelude.{◌≡◌, slice_get};
 ghost use Rattle.sg_value.specs.Known.{named};
 ghost use Rattle.sg_value.specs.Data.{truth};
 ghost use Rattle.sg_value.specs.Plain.{plain, AllKnown};
-ghost use Rattle.sg_eval.specs.Expressions.{negated, turned, decided};
-ghost use Rattle.sg_eval.specs.Process.{gives};
+ghost use Rattle.sg_meaning.specs.Expressions.{negated, turned, decided};
+ghost use Rattle.sg_meaning.specs.Process.{gives};
 ghost use Rattle.sg_eval.specs.State.{State};
 ghost use Rattle.sg_eval.specs.Outcomes.{Evaluates};
 

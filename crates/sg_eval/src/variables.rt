@@ -1,7 +1,6 @@
 //! The variables, each name with its value.
 
-ghost use Rattle.std.specs.Prelude.{◌≡◌, ℕ, List, Some, None, MatchOption, IfSome, OnOk, OnErr, [], slice_get, ⊤};
-ghost use Rattle.std.specs.Prelude.{Vec, ◌<◌};
+ghost use Rattle.std.specs.Prelude.{◌≡◌, ℕ, List, Some, None, MatchOption, IfSome, OnOk, OnErr, [], slice_get, ⊤, Vec, ◌<◌};
 ghost use Rattle.indexmap.specs.IndexMap.{index_map_len};
 ghost use Rattle.std.specs.Global.{Global};
 ghost use Rattle.sg_value.specs.declared.value.Value.{Value};
@@ -11,15 +10,15 @@ ghost use Rattle.std.specs.Str.{bytes_eq};
 ghost use Rattle.sg_value.specs.Plain.{AllKnown, AllKnownIn, contents, plain, plain_of_all};
 ghost use Rattle.sg_value.specs.Data.{int};
 ghost use Rattle.sg_eval.specs.State.{State, vars_of, values_of, AreKnown, AreKnownIn};
-ghost use Rattle.sg_eval.specs.Expressions.{looked_up};
+ghost use Rattle.sg_meaning.specs.Expressions.{looked_up};
 ghost use Rattle.sg_eval.specs.Outcomes.{Evaluates, plain_of, known_of};
 ghost use Rattle.sg_eval.specs.Growth.{Grows, joined_onto};
-ghost use Rattle.sg_eval.specs.Vars.{with_value};
+ghost use Rattle.sg_meaning.specs.Vars.{with_value};
 
 use crate::variable::{Variable, find};
 use indexmap::IndexMap;
 use sg_calls::{CallFault, Fault};
-use sg_lists::concatenate_onto;
+use sg_rows_lists::concatenate_onto;
 use sg_value::Value;
 use std::alloc::{AllocError, Global};
 

@@ -1,5 +1,12 @@
 pub mod AscendingLemmas
 pub mod BoundLemmas
+pub mod BoundsLemmas
+pub mod CoinLemmas
 pub mod ElasticityLemmas
-pub mod StepLemmas
 pub mod GreedyLemmas
+pub mod IntegerLemmas
+pub mod LengthLemmas
+pub mod NoteLemmas
+pub mod PlaceLemmas
+pub mod RefusalLemmas
+pub mod StepLemmas

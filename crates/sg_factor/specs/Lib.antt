@@ -1,2 +1,6 @@
+pub mod Bounds
+pub mod Coins
+pub mod Faults
 pub mod Greedy
+pub mod LengthTables
 pub mod Steps

@@ -2,12 +2,13 @@
 use Rattle.std.proofs.Common.{◌≡◌, ℕ, ◌+◌, ◌-◌, ◌↔◌, List, subst, ◌∙◌, arith}
 use Rattle.std.specs.Prelude.{ℤ, pos, ◌+ℤ◌, ◌-ℤ◌}
 use Rattle.std.proofs.lemmas.Int.{ints}
-use Rattle.sg_apery.specs.Classes.{IsAboveEntry}
+use Rattle.sg_classes.specs.Classes.{IsAboveEntry}
 use Rattle.sg_ideal.specs.Classes.{IsClosedTable, IsFrom, IsIdealTable, IsLeastAbove, IsRebased}
 use Rattle.sg_ideal.proofs.FromLemmas.{at-natural, natural-at}
 use Rattle.sg_ideal.proofs.TableLemmas.{zero-entry}
 
 module _ (G t list : List ℕ) (least : ℕ) (h : IsClosedTable G t) (l : IsLeastAbove t least) (r : IsRebased t least list) where
+  -- rebased at its least number, the set has 0
   pub rebased-table : IsIdealTable G list
   rebased-table = record {
     ambient = h.ambient;
@@ -19,6 +20,7 @@ module _ (G t list : List ℕ) (least : ℕ) (h : IsClosedTable G t) (l : IsLeas
         (r.same (n + g)).1 (subst (IsAboveEntry t) e (h.closed (n + least) g listed ((r.same n).0 a)));
   }
 
+  -- and tells the same integers
   pub rebased-from : (base x : ℤ) → IsFrom base t x ↔ IsFrom (base +ℤ pos least) list x
   rebased-from base x = (
     (λ m.

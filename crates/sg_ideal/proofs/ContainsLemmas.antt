@@ -8,7 +8,7 @@ use Rattle.std.proofs.lemmas.List.Elements.{Contains-get_or}
 use Rattle.sg_lawful.specs.Generators.{IsSmall}
 use Rattle.std.proofs.lemmas.Int.{ints}
 use Rattle.sg_defs.specs.Ideals.{IsIdealMember}
-use Rattle.sg_apery.specs.Classes.{IsAboveEntry}
+use Rattle.sg_classes.specs.Classes.{IsAboveEntry}
 use Rattle.sg_ideal.specs.Classes.{IsKept}
 use Rattle.sg_ideal.proofs.FromLemmas.{at-natural, natural-at}
 
@@ -31,6 +31,7 @@ module _ (G : List ℕ) (I : List ℤ) (t : List ℕ) (x : ℤ) (h : IsKept G I 
         subst (IsAboveEntry t) same n.2),
   )
 
+  -- the least member is within the limit
   pub first-small : IsSmall (get_or I 0 (pos 0))
   first-small = h.small (get_or I 0 (pos 0)) (Contains-get_or I 0 (pos 0) h.generates.not_empty)
 
@@ -44,6 +45,7 @@ module _ (G : List ℕ) (I : List ℤ) (t : List ℕ) (x : ℤ) (h : IsKept G I 
       let both = contains-high b f in
       ((λ q. both.0 (above.0 q)), (λ m. above.1 (both.1 m)))
 
+  -- nothing below it is a member
   pub contains-below : (a : ℤ) (r : Bool) → SFits w64 x → a ≡ get_or I 0 (pos 0) → le_z (to_z w64 (of_z w64 a)) (to_z w64 (of_z w64 x)) ≡ false → r ≡ false → IsTrue r ↔ IsIdealMember G I x
   contains-below a r fits e test not =
       let s = first-small in

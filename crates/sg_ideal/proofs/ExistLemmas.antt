@@ -1,5 +1,5 @@
 -- Each table has a list of heads, and with it a list of minimal generators.
-use Rattle.std.proofs.Common.{◌≡◌, ℕ, zero, suc, ◌+◌, ◌^◌, ◌%◌, ◌<◌, ◌↔◌, List, [], ◌∷◌, ◌++◌, length, subst, inl, inr, arith}
+use Rattle.std.proofs.Common.{◌≡◌, ℕ, zero, suc, ◌+◌, ◌%◌, ◌<◌, ◌↔◌, List, [], ◌∷◌, ◌++◌, length, subst, inl, inr, arith}
 use Rattle.std.specs.Prelude.{Contains, ℤ, pos, ◌+ℤ◌}
 use Rattle.std.specs.List.Sorted.{IsStrictlyIncreasing}
 use Rattle.std.proofs.lemmas.Int.{ints}
@@ -8,6 +8,7 @@ use Rattle.std.proofs.lemmas.Nat.{mod_below}
 use Rattle.std.proofs.lemmas.List.Elements.{Contains-append_left, Contains-push, Contains-push_cases}
 use Rattle.sg_defs.specs.Listings.{Lists}
 use Rattle.sg_invar.proofs.ListingLemmas.{increasing-push}
+use Rattle.sg_classes.specs.declared.limits.TheConstants.{APERY_ENTRY_LIMIT}
 use Rattle.sg_ideal.specs.Classes.{IsFrom, IsIdealTable}
 use Rattle.sg_ideal.specs.Heads.{IsHead, raised_by}
 use Rattle.sg_ideal.specs.Value.{HasLargeGenerator}
@@ -52,7 +53,7 @@ module _ (G t : List ℕ) (h : IsIdealTable G t) where
 
   pub heads-exist : (l : List ℕ) × Lists (IsHead G t) l
   heads-exist =
-      let r = below (2 ^ 52 + 1) in (
+      let r = below (APERY_ENTRY_LIMIT + 1) in (
         r.0,
         record {
           ascending = r.1;

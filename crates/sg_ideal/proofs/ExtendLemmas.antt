@@ -4,7 +4,7 @@ use Rattle.std.specs.Prelude.{◌⊎◌}
 use Rattle.std.proofs.lemmas.Bool.{cases_lt}
 use Rattle.std.proofs.lemmas.Nat.{mod_below}
 use Rattle.std.proofs.Math.Nat.{mod-eq_of_lt}
-use Rattle.sg_apery.specs.Classes.{IsAboveEntry}
+use Rattle.sg_classes.specs.Classes.{IsAboveEntry}
 use Rattle.sg_ideal.specs.Classes.{AreClasses}
 use Rattle.sg_ideal.proofs.ResidueLemmas.{residue-minus, residue-plus}
 
@@ -30,6 +30,7 @@ module _ (old other now : List ℕ) (b : ℕ) (o : AreClasses old) (p : AreClass
       let down : get_or old i 0 % length other ≡ i = ap (λ n. get_or old i 0 % n) (sym same_long) ∙ o.residue i (omega (arith, same_long)) in
       ap (λ x. x % length other) (each i l) ∙ residue-min (get_or old i 0) (b + get_or other j 0) i down up
 
+  -- each entry stays in its class
   pub extended-classes : AreClasses now
   extended-classes = record {
     not_empty = omega (arith, other_long, p.not_empty);
@@ -38,6 +39,7 @@ module _ (old other now : List ℕ) (b : ℕ) (o : AreClasses old) (p : AreClass
     small = λ i l. let e = each i (omega (arith, other_long)) in let s = o.small i (omega (arith, long)) in omega (arith, e, s);
   }
 
+  -- the set has what it had, and the other one moved up
   pub extended-same : (n : ℕ) → IsAboveEntry now n ↔ (IsAboveEntry old n ⊎ ((b ≤ n) × IsAboveEntry other (n - b)))
   extended-same n = (to, from)
     where

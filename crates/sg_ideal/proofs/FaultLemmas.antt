@@ -4,10 +4,12 @@ use Rattle.std.specs.Prelude.{ℕ, ℤ, ◌↔◌, List, Contains}
 use Rattle.std.proofs.lemmas.Int.{ints}
 use Rattle.sg_ideal.specs.declared.fault.IdealFault.{IdealFault}
 use Rattle.sg_ideal.specs.declared.fault.IdealFault.TheVariants.{BadArgument, TooLarge, Memory}
-use Rattle.sg_ideal.specs.Value.{GeneratesIdeal, HasLargeGenerator, IdealValue, IsIdealOf}
+use Rattle.sg_ideal.specs.Value.{GeneratesIdeal, HasLargeGenerator, IsIdealOf}
+use Rattle.sg_defs.specs.Ideals.{RelativeIdeal}
 use Rattle.sg_lawful.specs.Generators.{AreSmall, HasLarge}
 use Rattle.sg_ideal.specs.Faults.{AreRefused, IsListFault, IsMemory, IsSizeFault}
 
+-- a large minimal generator is a fault of the set
 pub size-fault : (G : List ℕ) (P : ℤ → Type 0) (I : List ℤ) → GeneratesIdeal G P I → (f : IdealFault) → IsListFault I f → IsSizeFault G P f
 size-fault G P I g BadArgument h = h
 size-fault G P I g TooLarge h = (I, g, h)
@@ -21,9 +23,11 @@ generates-same G P Q e I g = record {
   same = λ x. ((λ q. (g.same x).0 ((e x).0 q)), (λ m. (e x).1 ((g.same x).1 m)));
 }
 
-pub ideal-same : (G : List ℕ) (P Q : ℤ → Type 0) → ((x : ℤ) → Q x ↔ P x) → (I : IdealValue) → IsIdealOf G P I → IsIdealOf G Q I
+-- the same of an ideal within the limit
+pub ideal-same : (G : List ℕ) (P Q : ℤ → Type 0) → ((x : ℤ) → Q x ↔ P x) → (I : RelativeIdeal) → IsIdealOf G P I → IsIdealOf G Q I
 ideal-same G P Q e I i = record { ambient = i.ambient; generates = generates-same G P Q e I.generators i.generates; small = i.small }
 
+-- and of one that is past it
 pub large-same : (G : List ℕ) (P Q : ℤ → Type 0) → ((x : ℤ) → Q x ↔ P x) → HasLargeGenerator G P → HasLargeGenerator G Q
 large-same G P Q e h = (h.0, generates-same G P Q e h.0 h.1, h.2)
 

@@ -3,9 +3,9 @@ use Rattle.std.proofs.Common.{◌≡◌, ℕ, zero, suc, ◌+◌, ◌*◌, ◌�
 use Rattle.std.specs.Prelude.{ℤ, pos, negsuc, neg_ℤ, nat_abs, ◌+ℤ◌, ◌-ℤ◌, ◌<ℤ◌, ◌≤ℤ◌}
 use Rattle.std.proofs.lemmas.Int.{ints, by_lt_z}
 use Rattle.sg_defs.specs.Membership.{AtNatural, IsMember}
-use Rattle.sg_defs.specs.Ideals.{IsInMultiple}
-use Rattle.sg_apery.specs.Classes.{IsAboveEntry}
-use Rattle.sg_ideal.specs.Value.{IdealValue, IsIn, IsLeast, times}
+use Rattle.sg_defs.specs.Ideals.{IsInMultiple, RelativeIdeal}
+use Rattle.sg_classes.specs.Classes.{IsAboveEntry}
+use Rattle.sg_ideal.specs.Value.{IsIn, IsLeast, times}
 use Rattle.sg_lawful.specs.declared.limits.TheConstants.{IDEAL_GENERATOR_LIMIT}
 use Rattle.sg_lawful.specs.Generators.{IsLarge}
 use Rattle.sg_ideal.specs.Classes.{IsFrom, IsIdealTable, IsKept, IsSpread}
@@ -15,11 +15,12 @@ use Rattle.sg_ideal.proofs.PairLemmas.{listed-member}
 use Rattle.sg_ideal.proofs.TableLemmas.{spread-table, spread-from}
 
 -- the list tells the sums of k members
-pub record IsFold (J : IdealValue) (k : ℕ) (list : List ℕ) : Type 0 where
+pub record IsFold (J : RelativeIdeal) (k : ℕ) (list : List ℕ) : Type 0 where
   pub table : IsIdealTable J.ambient list
   pub same : (x : ℤ) → IsInMultiple k (IsIn J) x ↔ IsFrom (times k (get_or J.generators 0 (pos 0))) list x
 
-module _ (J : IdealValue) where
+module _ (J : RelativeIdeal) where
+  -- sums of one member
   pub fold-one : (t list : List ℕ) → IsKept J.ambient J.generators t → list ≡ t → IsFold J 1 list
   fold-one t list k e = subst (IsFold J 1) (sym e) (record { table = k.table; same = λ x. (to x, from x) })
     where
@@ -36,6 +37,7 @@ module _ (J : IdealValue) where
           let h : x -ℤ times 1 (get_or J.generators 0 (pos 0)) ≡ x -ℤ get_or J.generators 0 (pos 0) = omega (arith, ints) in
           (x, pos 0, (k.generates.same x).0 (subst (AtNatural (IsAboveEntry t)) h m), refl, omega (arith, ints))
 
+  -- sums of one member more
   pub fold-more : (k : ℕ) (list next : List ℕ) → IsLeast J.generators (get_or J.generators 0 (pos 0)) → IsSpread list (get_or J.generators 0 (pos 0)) J.generators next → IsFold J k list → IsFold J (k + 1) next
   fold-more k list next least s h = subst (λ n. IsFold J n next) (let e : suc k ≡ k + 1 = omega arith in e) (record {
     table = spread-table J.ambient list (get_or J.generators 0 (pos 0)) J.generators next h.table least s;
@@ -86,14 +88,17 @@ pub times-neg : (k n : ℕ) → times k (neg_ℤ (pos n)) ≡ neg_ℤ (pos (k * 
 times-neg zero n = let e : 0 * n ≡ 0 = omega arith in omega (arith, ints, e)
 times-neg (suc k) n = let h = times-neg k n in omega (arith, ints, h)
 
+-- k times an integer that is not negative
 pub times-above : (k : ℕ) (x : ℤ) → pos 0 ≤ℤ x → times k x ≡ pos (k * nat_abs x)
 times-above k (pos n) l = times-pos k n
 times-above k (negsuc n) l = absurd (omega (arith, ints, l))
 
+-- k times a negative integer
 pub times-below : (k : ℕ) (x : ℤ) → x <ℤ pos 0 → times k x ≡ neg_ℤ (pos (k * nat_abs x))
 times-below k (pos n) l = absurd (omega (arith, ints, l))
 times-below k (negsuc n) l = times-neg k (suc n)
 
+-- a product past the limit is large
 pub times-large : (k : ℕ) (x : ℤ) → IDEAL_GENERATOR_LIMIT ≤ℤ pos (k * nat_abs x) → IsLarge (times k x)
 times-large k x l =
     by_lt_z x (pos 0) (λ below. let e = times-below k x below in inl (omega (arith, ints, e, l))) (λ above. let e = times-above k x above in inr (omega (arith, ints, e, l)))

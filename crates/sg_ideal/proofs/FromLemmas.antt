@@ -3,7 +3,7 @@ use Rattle.std.proofs.Common.{◌≡◌, ℕ, ◌-◌, ◌≤◌, ◌↔◌, Lis
 use Rattle.std.specs.Prelude.{ℤ, pos, negsuc, ◌+ℤ◌, ◌-ℤ◌}
 use Rattle.std.proofs.lemmas.Int.{ints}
 use Rattle.sg_defs.specs.Membership.{AtNatural}
-use Rattle.sg_apery.specs.Classes.{IsAboveEntry}
+use Rattle.sg_classes.specs.Classes.{IsAboveEntry}
 use Rattle.sg_ideal.specs.Classes.{IsFrom}
 
 -- what holds at an integer holds at a natural that it is
@@ -11,6 +11,7 @@ pub at-natural : (P : ℕ → Type 0) (x : ℤ) → AtNatural P x → (n : ℕ) 
 at-natural P (pos n) h = (n, refl, h)
 at-natural P (negsuc n) h = absurd h
 
+-- and the other way round
 pub natural-at : (P : ℕ → Type 0) (x : ℤ) (n : ℕ) → x ≡ pos n → P n → AtNatural P x
 natural-at P x n e h = subst (AtNatural P) (sym e) h
 

@@ -5,9 +5,9 @@ use Rattle.std.proofs.lemmas.Bool.{cases_lt}
 use Rattle.std.proofs.lemmas.Int.{ints}
 use Rattle.std.proofs.lemmas.List.{get_or_default}
 use Rattle.sg_defs.specs.Membership.{IsMember}
-use Rattle.sg_defs.specs.Ideals.{IsInMultiple}
-use Rattle.sg_apery.specs.Classes.{IsAboveEntry}
-use Rattle.sg_ideal.specs.Value.{IdealValue, IsIn, IsLeast, times}
+use Rattle.sg_defs.specs.Ideals.{IsInMultiple, RelativeIdeal}
+use Rattle.sg_classes.specs.Classes.{IsAboveEntry}
+use Rattle.sg_ideal.specs.Value.{IsIn, IsLeast, times}
 use Rattle.sg_ideal.specs.Classes.{IsFrom, IsIdealTable, IsKept, IsReach}
 use Rattle.sg_defs.specs.Membership.{AtNatural}
 use Rattle.sg_ideal.proofs.FoldLemmas.{IsFold, fold-one}
@@ -17,10 +17,10 @@ use Rattle.sg_ideal.proofs.PairLemmas.{first-least, listed-member}
 use Rattle.sg_ideal.proofs.ReachLemmas.{reach-closed, reach-keeps, reach-low, reach-table}
 
 -- n is how far a sum of k members lies from the least of them
-abbrev pub IsApart : IdealValue → ℕ → ℕ → Type 0
+abbrev pub IsApart : RelativeIdeal → ℕ → ℕ → Type 0
 IsApart J k n = IsInMultiple k (IsIn J) (times k (get_or J.generators 0 (pos 0)) +ℤ pos n)
 
-module _ (J : IdealValue) where
+module _ (J : RelativeIdeal) where
   apart-same : (k l m n : ℕ) → k ≡ l → m ≡ n → IsApart J k m → IsApart J l n
   apart-same k l m n e f h = subst (λ l. IsApart J l n) e (subst (IsApart J k) f h)
 
@@ -59,7 +59,7 @@ module _ (J : IdealValue) where
   }
 
 -- no sum of members leaves a set that each distance moves into itself
-module _ (J : IdealValue) (t list : List ℕ) (kept : IsKept J.ambient J.generators t) (h : IsIdealTable J.ambient list) (low : (n : ℕ) → IsAboveEntry t n → IsAboveEntry list n)
+module _ (J : RelativeIdeal) (t list : List ℕ) (kept : IsKept J.ambient J.generators t) (h : IsIdealTable J.ambient list) (low : (n : ℕ) → IsAboveEntry t n → IsAboveEntry list n)
     (move : (g : ℤ) (n d : ℕ) → Contains J.generators g → pos d ≡ g -ℤ get_or J.generators 0 (pos 0) → IsAboveEntry list n → IsAboveEntry list (n + d)) where
   pub multiple-within : (k : ℕ) (x : ℤ) → IsInMultiple (suc k) (IsIn J) x → IsFrom (times (suc k) (get_or J.generators 0 (pos 0))) list x
   multiple-within zero x m =
@@ -83,13 +83,14 @@ module _ (J : IdealValue) (t list : List ℕ) (kept : IsKept J.ambient J.generat
       natural-at (IsAboveEntry list) (x -ℤ (b +ℤ B)) ((n.0 + r.0) + d) (omega (arith, ints, e, f, i, far)) moved
 
 -- the distances of the first i generators were added, each up to c times
-pub record IsGathered (J : IdealValue) (t : List ℕ) (i c : ℕ) (list : List ℕ) : Type 0 where
+pub record IsGathered (J : RelativeIdeal) (t : List ℕ) (i c : ℕ) (list : List ℕ) : Type 0 where
   pub table : IsIdealTable J.ambient list
   pub low : (n : ℕ) → IsAboveEntry t n → IsAboveEntry list n
   pub within : (n : ℕ) → IsAboveEntry list n → IsApart J (suc (i * c)) n
   pub move : (j d n : ℕ) → j < i → pos d ≡ get_or J.generators j (pos 0) -ℤ get_or J.generators 0 (pos 0) → IsAboveEntry list n → IsAboveEntry list (n + d)
 
-pub gather-none : (J : IdealValue) (t : List ℕ) (c : ℕ) (list : List ℕ) → IsKept J.ambient J.generators t → list ≡ t → IsGathered J t 0 c list
+-- no distance was added
+pub gather-none : (J : RelativeIdeal) (t : List ℕ) (c : ℕ) (list : List ℕ) → IsKept J.ambient J.generators t → list ≡ t → IsGathered J t 0 c list
 gather-none J t c list k e = subst (IsGathered J t 0 c) (sym e) (record {
   table = k.table;
   low = λ n a. a;
@@ -97,7 +98,7 @@ gather-none J t c list k e = subst (IsGathered J t 0 c) (sym e) (record {
   move = λ j d n l f a. absurd (omega (arith, l));
 })
 
-module _ (J : IdealValue) (t : List ℕ) (i c : ℕ) (list now : List ℕ) (d : ℕ) (least : IsLeast J.generators (get_or J.generators 0 (pos 0))) (inside : i < length J.generators) (often : c ≡ length list)
+module _ (J : RelativeIdeal) (t : List ℕ) (i c : ℕ) (list now : List ℕ) (d : ℕ) (least : IsLeast J.generators (get_or J.generators 0 (pos 0))) (inside : i < length J.generators) (often : c ≡ length list)
     (far : pos d ≡ get_or J.generators i (pos 0) -ℤ get_or J.generators 0 (pos 0)) (r : IsReach list d c now) (h : IsGathered J t i c list) where
   within : (n : ℕ) → IsAboveEntry now n → IsApart J (suc ((i + 1) * c)) n
   within n a =
@@ -121,6 +122,7 @@ module _ (J : IdealValue) (t : List ℕ) (i c : ℕ) (list now : List ℕ) (d : 
         subst (λ b. IsAboveEntry now (n + b)) e (reach-closed list d c now r often h.table.classes.not_empty n a)
   ]
 
+  -- the distance of one more generator
   pub gather-more : IsGathered J t (i + 1) c now
   gather-more = record {
     table = reach-table list d c now r J.ambient h.table;
@@ -129,7 +131,8 @@ module _ (J : IdealValue) (t : List ℕ) (i c : ℕ) (list now : List ℕ) (d : 
     move = move;
   }
 
-pub gather-all : (J : IdealValue) (t : List ℕ) (i c k : ℕ) (list : List ℕ) → IsKept J.ambient J.generators t → i ≡ length J.generators → i * c < k → IsGathered J t i c list → IsFold J k list
+-- where all were, they are the sums of k members
+pub gather-all : (J : RelativeIdeal) (t : List ℕ) (i c k : ℕ) (list : List ℕ) → IsKept J.ambient J.generators t → i ≡ length J.generators → i * c < k → IsGathered J t i c list → IsFold J k list
 gather-all J t i c k list kept all many h = apart-fold J k list h.table low up
   where
     low : (n : ℕ) → IsAboveEntry list n → IsApart J k n
@@ -150,7 +153,7 @@ gather-all J t i c k list kept all many h = apart-fold J k list h.table low up
         subst (λ k. IsFrom (times k (get_or J.generators 0 (pos 0))) list x) (sym e) r
 
 -- of two generators only the second lies apart
-module _ (J : IdealValue) (t : List ℕ) (d : ℕ) (kept : IsKept J.ambient J.generators t) (two : length J.generators ≡ 2) (far : pos d ≡ get_or J.generators 1 (pos 0) -ℤ get_or J.generators 0 (pos 0)) where
+module _ (J : RelativeIdeal) (t : List ℕ) (d : ℕ) (kept : IsKept J.ambient J.generators t) (two : length J.generators ≡ 2) (far : pos d ≡ get_or J.generators 1 (pos 0) -ℤ get_or J.generators 0 (pos 0)) where
   abbrev IsLed : ℕ → ℕ → Type 0
   IsLed k n = (e : ℕ) × (e ≤ k) × (e * d ≤ n) × IsAboveEntry t (n - e * d)
 
@@ -190,6 +193,7 @@ module _ (J : IdealValue) (t : List ℕ) (d : ℕ) (kept : IsKept J.ambient J.ge
             natural-at (IsLed (suc k)) (x -ℤ (b +ℤ B)) ((n.0 + r.0) + d) (omega (arith, ints, e, f, i, here, same, far)) (p.0 + 1, omega (arith, l), omega (arith, u, v), subst (IsAboveEntry t) s added)
       ]
 
+  -- of two generators, sums by the second distance alone
   pub pair-fold : (k : ℕ) (list : List ℕ) → 0 < k → IsReach t d (k - 1) list → IsFold J k list
   pair-fold k list positive r = apart-fold J k list (reach-table t d (k - 1) list r J.ambient kept.table) low up
     where

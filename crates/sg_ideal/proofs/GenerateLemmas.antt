@@ -5,16 +5,18 @@ use Rattle.std.proofs.lemmas.Bool.{cases_lt}
 use Rattle.std.proofs.lemmas.List.Elements.{Contains-get_or}
 use Rattle.sg_defs.specs.Membership.{IsMember}
 use Rattle.sg_defs.proofs.MembershipLemmas.{member-zero, member-add, member-entry, member-induction}
-use Rattle.sg_apery.specs.Classes.{IsAboveEntry}
-use Rattle.sg_apery.proofs.GeneratorLemmas.{contains-place, entry-positive, member-split}
-use Rattle.sg_apery.proofs.KunzLemmas.{zero-residue}
+use Rattle.sg_classes.specs.Classes.{IsAboveEntry}
+use Rattle.sg_classes.proofs.GeneratorLemmas.{contains-place, entry-positive, member-split}
+use Rattle.sg_classes.proofs.ResidueLemmas.{zero-residue}
 use Rattle.sg_ideal.specs.Classes.{IsIdealTable}
 use Rattle.sg_ideal.specs.Heads.{IsFree, IsHead}
 
 module _ (G t : List ℕ) (h : IsIdealTable G t) where
+  -- 0 is in the set
   pub above-zero : IsAboveEntry t 0
   above-zero = let e = ap (λ r. get_or t r 0) (zero-residue (length t) h.classes.not_empty) in omega (arith, e, h.zero)
 
+  -- the number of classes is a generator of the semigroup
   pub multiplicity-listed : Contains G (length t)
   multiplicity-listed = subst (Contains G) (sym h.multiplicity) (Contains-get_or G 0 0 h.ambient.semigroup.not_empty)
 
@@ -58,6 +60,7 @@ module _ (G t : List ℕ) (h : IsIdealTable G t) where
       let p = contains-place G g listed in
       none p.0 p.1 (omega (arith, p.2)) (subst (λ x. IsAboveEntry t (n - x)) (sym p.2) q)
 
+  -- whether a number is a minimal generator is decided
   pub head-decided : (n : ℕ) → IsHead G t n ⊎ (IsHead G t n → ⊥)
   head-decided n = elim (above-decided n) [
     | inr not ↦ inr (λ h. not h.0)
@@ -80,6 +83,7 @@ module _ (G t : List ℕ) (h : IsIdealTable G t) where
     | inr none ↦ (n, 0, (a, free-from_places n none), member-zero G, omega arith)
   ]
 
+  -- each number of the set is a minimal generator and a member
   pub generated : (n : ℕ) → IsAboveEntry t n → (w s : ℕ) × IsHead G t w × IsMember G s × (n ≡ w + s)
   generated n a = generated-below (n + 1) n (omega arith) a
 

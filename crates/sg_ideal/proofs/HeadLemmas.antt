@@ -1,5 +1,5 @@
 -- The heads of a set: one in a class at most, collected class by class, then sorted.
-use Rattle.std.proofs.Common.{◌≡◌, ◌≢◌, ℕ, zero, suc, ◌+◌, ◌-◌, ◌*◌, ◌%◌, ◌<◌, ◌≤◌, ◌^◌, List, [], ◌∷◌, ◌++◌, length, get_or, sym, ap, subst, ◌∙◌, inl, inr, arith}
+use Rattle.std.proofs.Common.{◌≡◌, ◌≢◌, ℕ, zero, suc, ◌+◌, ◌-◌, ◌*◌, ◌%◌, ◌<◌, ◌≤◌, List, [], ◌∷◌, ◌++◌, length, get_or, sym, ap, subst, ◌∙◌, inl, inr, arith}
 use Rattle.std.specs.Prelude.{Contains}
 use Rattle.std.specs.List.Sorted.{IsPermutation, IsSorted, IsStrictlyIncreasing}
 use Rattle.std.specs.Ordering.{nat_cmp}
@@ -16,9 +16,10 @@ use Rattle.std.proofs.lemmas.List.Sorted.{IsNonDecreasingBy-from_sort, Contains-
 use Rattle.std.proofs.lemmas.Map.Keys.{IsDistinct-IsPermutation, IsStrictlyIncreasing-from_distinct}
 use Rattle.std.proofs.lemmas.Map.Made.{IsDistinct-from_AllPairs}
 use Rattle.sg_defs.specs.Listings.{Lists}
-use Rattle.sg_apery.specs.Classes.{IsAboveEntry}
-use Rattle.sg_apery.proofs.AperyLemmas.{congruent-split}
-use Rattle.sg_apery.proofs.GeneratorLemmas.{contains-place}
+use Rattle.sg_classes.specs.declared.limits.TheConstants.{APERY_ENTRY_LIMIT}
+use Rattle.sg_classes.specs.Classes.{IsAboveEntry}
+use Rattle.sg_classes.proofs.AperyLemmas.{congruent-split}
+use Rattle.sg_classes.proofs.GeneratorLemmas.{contains-place}
 use Rattle.sg_ideal.specs.Classes.{IsIdealTable}
 use Rattle.sg_ideal.specs.Heads.{IsFree, IsHead, CollectsHeads}
 
@@ -63,6 +64,7 @@ module _ (G t : List ℕ) (h : IsIdealTable G t) (modulus : Contains G (length t
   entry-above : (n : ℕ) → n < length t → IsAboveEntry t (get_or t n 0)
   entry-above n l = let e = ap (λ r. get_or t r 0) (h.classes.residue n l) in omega (arith, e)
 
+  -- an entry that is not free is no minimal generator
   pub collects-skip : (n : ℕ) (l : List ℕ) → n < length t → (IsFree G t (get_or t n 0) → ⊥) → CollectsHeads G t n l → CollectsHeads G t (n + 1) l
   collects-skip n l inside not c = record {
     apart = c.apart;
@@ -78,6 +80,7 @@ module _ (G t : List ℕ) (h : IsIdealTable G t) (modulus : Contains G (length t
     );
   }
 
+  -- a free one is one more
   pub collects-push : (n : ℕ) (l : List ℕ) → n < length t → IsFree G t (get_or t n 0) → CollectsHeads G t n l → CollectsHeads G t (n + 1) (l ++ get_or t n 0 ∷ [])
   collects-push n l inside free c = record {
     apart = all_pairs_push (λ v w. v ≢ w) l (get_or t n 0) c.apart (λ k d k_in. differs (get_or l k d) ((c.exactly (get_or l k d)).0 (listed k d k_in)).0);
@@ -126,7 +129,7 @@ heads-sorted G t l sorted positive h moved order = record {
     ]
 
 -- each is an entry
-pub heads-small : (G t : List ℕ) → IsIdealTable G t → (l : List ℕ) → Lists (IsHead G t) l → (k : ℕ) → k < length l → get_or l k 0 ≤ 2 ^ 52
+pub heads-small : (G t : List ℕ) → IsIdealTable G t → (l : List ℕ) → Lists (IsHead G t) l → (k : ℕ) → k < length l → get_or l k 0 ≤ APERY_ENTRY_LIMIT
 heads-small G t h l listed k inside =
     let w = get_or l k 0 in
     let modulus = subst (Contains G) (sym h.multiplicity) (Contains-get_or G 0 0 h.ambient.semigroup.not_empty) in

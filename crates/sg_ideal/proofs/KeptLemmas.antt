@@ -9,7 +9,7 @@ use Rattle.std.proofs.lemmas.Bool.{cases_lt}
 use Rattle.sg_defs.specs.Listings.{Lists}
 use Rattle.sg_defs.specs.Membership.{IsMember, IsIntegerMember}
 use Rattle.sg_defs.specs.Ideals.{IsIdealMember}
-use Rattle.sg_apery.specs.Classes.{IsAboveEntry}
+use Rattle.sg_classes.specs.Classes.{IsAboveEntry}
 use Rattle.sg_ideal.specs.Value.{GeneratesIdeal}
 use Rattle.sg_lawful.specs.Generators.{AreSmall}
 use Rattle.sg_ideal.specs.Classes.{IsFrom, IsIdealTable, IsKept}
@@ -25,6 +25,7 @@ raised-from base H x q =
     let e : base +ℤ pos (get_or H q.0 0) ≡ x = sym (get_or-map (λ h. base +ℤ pos h) H q.0 0 x inside) ∙ q.2 in
     (get_or H q.0 0, Contains-get_or H q.0 0 inside, sym e)
 
+-- a listed number, with the base
 pub raised-to : (base : ℤ) (H : List ℕ) (w : ℕ) → Contains H w → Contains (raised_by base H) (base +ℤ pos w)
 raised-to base H w c =
     let x = base +ℤ pos w in
@@ -79,6 +80,7 @@ module _ (G t H : List ℕ) (base : ℤ) (h : IsIdealTable G t) (l : Lists (IsHe
   heads-long : 0 < length H
   heads-long = let p = listed-zero.1 in omega arith
 
+  -- the minimal generators of the set, with the base, are those of the ideal
   pub heads-generate : GeneratesIdeal G (IsFrom base t) (raised_by base H)
   heads-generate = record {
     not_empty = omega (arith, length-map H (λ h. base +ℤ pos h), heads-long);
@@ -98,6 +100,7 @@ module _ (G t H : List ℕ) (base : ℤ) (h : IsIdealTable G t) (l : Lists (IsHe
   first-base : get_or (raised_by base H) 0 (pos 0) ≡ base
   first-base = get_or-map (λ h. base +ℤ pos h) H 0 0 (pos 0) heads-long ∙ ap (λ k. base +ℤ pos k) first-zero ∙ omega (arith, ints)
 
+  -- so the table may be kept
   pub heads-kept : AreSmall (raised_by base H) → IsKept G (raised_by base H) t
   heads-kept small = record {
     table = h;

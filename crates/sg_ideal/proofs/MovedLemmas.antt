@@ -3,12 +3,13 @@ use Rattle.std.proofs.Common.{◌≡◌, ℕ, ◌↔◌, List, get_or, sym, subs
 use Rattle.std.specs.Prelude.{ℤ, pos, ◌+ℤ◌, ◌-ℤ◌}
 use Rattle.std.proofs.lemmas.Int.{ints}
 use Rattle.sg_defs.specs.Membership.{AtNatural}
-use Rattle.sg_defs.specs.Ideals.{IsInTranslate}
-use Rattle.sg_apery.specs.Classes.{IsAboveEntry}
-use Rattle.sg_ideal.specs.Value.{IdealValue, IsIn}
+use Rattle.sg_defs.specs.Ideals.{IsInTranslate, RelativeIdeal}
+use Rattle.sg_classes.specs.Classes.{IsAboveEntry}
+use Rattle.sg_ideal.specs.Value.{IsIn}
 use Rattle.sg_ideal.specs.Classes.{IsFrom, IsKept}
 
-pub translate-same : (J : IdealValue) (t : List ℕ) (x : ℤ) → IsKept J.ambient J.generators t → (y : ℤ) → IsInTranslate x (IsIn J) y ↔ IsFrom (x +ℤ get_or J.generators 0 (pos 0)) t y
+-- the translate by the same table
+pub translate-same : (J : RelativeIdeal) (t : List ℕ) (x : ℤ) → IsKept J.ambient J.generators t → (y : ℤ) → IsInTranslate x (IsIn J) y ↔ IsFrom (x +ℤ get_or J.generators 0 (pos 0)) t y
 translate-same J t x k y =
     let a = get_or J.generators 0 (pos 0) in
     let e : (y -ℤ x) -ℤ a ≡ y -ℤ (x +ℤ a) = omega (arith, ints) in

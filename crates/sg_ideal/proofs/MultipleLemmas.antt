@@ -5,9 +5,9 @@ use Rattle.std.specs.List.{range_with_len}
 use Rattle.std.proofs.lemmas.Int.{ints}
 use Rattle.std.proofs.lemmas.List.{get_or_default}
 use Rattle.std.proofs.lemmas.List.FromFn.{get_or-map-range_with_len, length-map-range_with_len}
-use Rattle.sg_defs.specs.Ideals.{IsInMultiple}
-use Rattle.sg_apery.specs.Classes.{IsAboveEntry}
-use Rattle.sg_ideal.specs.Value.{HasLargeGenerator, IdealValue, IsIn, IsLeast, times}
+use Rattle.sg_defs.specs.Ideals.{IsInMultiple, RelativeIdeal}
+use Rattle.sg_classes.specs.Classes.{IsAboveEntry}
+use Rattle.sg_ideal.specs.Value.{HasLargeGenerator, IsIn, IsLeast, times}
 use Rattle.sg_lawful.specs.Generators.{IsLarge}
 use Rattle.sg_ideal.specs.Classes.{AreClasses, IsFrom, IsKept, IsSpread}
 use Rattle.sg_ideal.proofs.ExistLemmas.{large-base}
@@ -53,7 +53,7 @@ module _ (t : List ℕ) (base : ℤ) (I : List ℤ) (c : AreClasses t) (least : 
       let all = so-far (length I) (omega arith) in
       (all.0, spread-all t base I (length I) all.0 least.listed refl all.1)
 
-module _ (J : IdealValue) (t : List ℕ) (kept : IsKept J.ambient J.generators t) where
+module _ (J : RelativeIdeal) (t : List ℕ) (kept : IsKept J.ambient J.generators t) where
   fold-exists : (k : ℕ) → (list : List ℕ) × IsFold J (suc k) list
   fold-exists zero = (t, fold-one J t t kept refl)
   fold-exists (suc k) =

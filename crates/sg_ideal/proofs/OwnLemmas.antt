@@ -12,9 +12,9 @@ use Rattle.sg_defs.specs.Invariants.{IsFrobenius, IsPseudoFrobenius}
 use Rattle.sg_defs.specs.Ideals.{IsIdealMember, IsInCanonical, IsInMaximal, IsMinimalIdeal}
 use Rattle.sg_defs.proofs.OneLemmas.{one-frobenius}
 use Rattle.sg_defs.proofs.MembershipLemmas.{member-zero, member-add, member-entry}
-use Rattle.sg_apery.specs.Limits.{APERY_ENTRY_LIMIT}
-use Rattle.sg_apery.specs.Fit.{IsFit}
-use Rattle.sg_apery.proofs.GeneratorLemmas.{contains-place, entry-positive, member-listed, member-split}
+use Rattle.sg_classes.specs.declared.limits.TheConstants.{APERY_ENTRY_LIMIT}
+use Rattle.sg_classes.specs.Fit.{IsFit}
+use Rattle.sg_classes.proofs.GeneratorLemmas.{contains-place, entry-positive, member-listed, member-split}
 use Rattle.sg_invar.proofs.PseudoFrobeniusLemmas.{outside-below, pseudo_frobenius-from_generators, pseudo_frobenius-low}
 use Rattle.sg_ideal.specs.Value.{AreWithin, GeneratesIdeal, IsReflected}
 use Rattle.sg_lawful.specs.Generators.{AreSmall}
@@ -124,6 +124,7 @@ module _ (G : List ℕ) (f : ℤ) (pf r : List ℤ) (semigroup : IsNumericalSemi
       let in_r : k < length r = omega (arith, reflected.long) in
       (k, in_r, get_or_default r k (f -ℤ y) (pos 0) in_r ∙ e)
 
+  -- the reflected numbers generate the canonical ideal
   pub canonical-same : (x : ℤ) → IsInCanonical G x ↔ IsIdealMember G r x
   canonical-same x = (to, from)
     where
@@ -176,6 +177,7 @@ module _ (G : List ℕ) (f : ℤ) (pf r : List ℤ) (semigroup : IsNumericalSemi
             | inr none ↦ other (omega (arith, ints, h, none))
           ]
 
+  -- and are its minimal list
   pub canonical-generates : 0 < length pf → GeneratesIdeal G (IsInCanonical G) r
   canonical-generates positive = record { not_empty = omega (arith, reflected.long); minimal = canonical-minimal; same = canonical-same }
 

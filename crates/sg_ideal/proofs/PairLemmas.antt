@@ -6,11 +6,11 @@ use Rattle.std.proofs.lemmas.Bool.{cases_lt}
 use Rattle.std.proofs.lemmas.List.{get_or_default}
 use Rattle.std.proofs.lemmas.List.Elements.{Contains-get_or}
 use Rattle.sg_defs.specs.Membership.{AtNatural, IsMember}
-use Rattle.sg_defs.specs.Ideals.{IsIdealMember, IsInSum, IsInDifference}
+use Rattle.sg_defs.specs.Ideals.{IsIdealMember, IsInSum, IsInDifference, RelativeIdeal}
 use Rattle.sg_defs.proofs.MembershipLemmas.{member-zero}
-use Rattle.sg_apery.specs.Classes.{IsAboveEntry}
+use Rattle.sg_classes.specs.Classes.{IsAboveEntry}
 use Rattle.std.proofs.Common.{to_z, of_z, w64}
-use Rattle.sg_ideal.specs.Value.{IdealValue, IsIn, IsInBoth, IsLeast}
+use Rattle.sg_ideal.specs.Value.{IsIn, IsInBoth, IsLeast}
 use Rattle.sg_lawful.specs.Generators.{IsSmall}
 use Rattle.sg_ideal.specs.Classes.{AreClasses, IsClosedTable, IsFrom, IsIdealTable, IsKept, IsRebased, IsReduced, IsSpread}
 use Rattle.sg_ideal.proofs.FromLemmas.{at-natural, natural-at}
@@ -41,11 +41,13 @@ kept-add G I t k x s m q =
 pub listed-member : (G : List ℕ) (I : List ℤ) (g : ℤ) → Contains I g → IsIdealMember G I g
 listed-member G I g c = let e : g -ℤ g ≡ pos 0 = omega (arith, ints) in (g, c, natural-at (IsMember G) (g -ℤ g) 0 e (member-zero G))
 
-module _ (I J : IdealValue) (t list : List ℕ) (i : IsKept I.ambient I.generators t) (least : IsLeast J.generators (get_or J.generators 0 (pos 0))) (paired : I.ambient ≡ J.ambient)
+module _ (I J : RelativeIdeal) (t list : List ℕ) (i : IsKept I.ambient I.generators t) (least : IsLeast J.generators (get_or J.generators 0 (pos 0))) (paired : I.ambient ≡ J.ambient)
     (s : IsSpread t (get_or J.generators 0 (pos 0)) J.generators list) where
+  -- the sums are told by a table
   pub sum-table : IsIdealTable I.ambient list
   sum-table = spread-table I.ambient t (get_or J.generators 0 (pos 0)) J.generators list i.table least s
 
+  -- that tells exactly them
   pub sum-same : (x : ℤ) → IsInSum (IsIn I) (IsIn J) x ↔ IsFrom (get_or I.generators 0 (pos 0) +ℤ get_or J.generators 0 (pos 0)) list x
   sum-same x =
       let a = get_or I.generators 0 (pos 0) in
@@ -76,13 +78,14 @@ passed-least I L l e small h =
     let back : l ≡ to_z w64 (of_z w64 l) = omega (arith, ints, small) in
     subst (λ L. IsLeast L (to_z w64 (of_z w64 l))) (sym e) (subst (IsLeast I) back h)
 
+-- what was spread, by the least generator as it is passed
 pub passed-spread : (t list : List ℕ) (I L : List ℤ) (l : ℤ) → L ≡ I → IsSmall l → IsSpread t (to_z w64 (of_z w64 l)) L list → IsSpread t l I list
 passed-spread t list I L l e small h =
     let back : to_z w64 (of_z w64 l) ≡ l = omega (arith, ints, small) in
     subst (λ b. IsSpread t b I list) back (subst (λ L. IsSpread t (to_z w64 (of_z w64 l)) L list) e h)
 
 -- what two ideals have in common
-module _ (I J : IdealValue) (t u first list : List ℕ) (p q : ℕ) (base : ℤ) (i : IsKept I.ambient I.generators t) (j : IsKept J.ambient J.generators u) (paired : I.ambient ≡ J.ambient)
+module _ (I J : RelativeIdeal) (t u first list : List ℕ) (p q : ℕ) (base : ℤ) (i : IsKept I.ambient I.generators t) (j : IsKept J.ambient J.generators u) (paired : I.ambient ≡ J.ambient)
     (r : IsRebased t p first) (long : length list ≡ length first) (classes : AreClasses list) (same : (n : ℕ) → IsAboveEntry list n ↔ (IsAboveEntry first n × IsAboveEntry u (n + q)))
     (pe : pos p ≡ base -ℤ get_or I.generators 0 (pos 0)) (qe : pos q ≡ base -ℤ get_or J.generators 0 (pos 0))
     (one : (base ≡ get_or I.generators 0 (pos 0)) ⊎ (base ≡ get_or J.generators 0 (pos 0))) where
@@ -92,6 +95,7 @@ module _ (I J : IdealValue) (t u first list : List ℕ) (p q : ℕ) (base : ℤ)
     (λ m. (same n).1 ((r.same n).1 m.0, m.1)),
   )
 
+  -- what is in both is told by a table
   pub common-table : IsClosedTable I.ambient list
   common-table = record {
     ambient = i.table.ambient;
@@ -107,6 +111,7 @@ module _ (I J : IdealValue) (t u first list : List ℕ) (p q : ℕ) (base : ℤ)
         );
   }
 
+  -- that tells exactly it
   pub common-same : (x : ℤ) → IsInBoth (IsIn I) (IsIn J) x ↔ IsFrom base list x
   common-same x = (to, from)
     where
@@ -132,8 +137,9 @@ module _ (I J : IdealValue) (t u first list : List ℕ) (p q : ℕ) (base : ℤ)
           )
 
 -- what moves one ideal into another
-module _ (I J : IdealValue) (t list : List ℕ) (i : IsKept I.ambient I.generators t) (least : IsLeast J.generators (get_or J.generators 0 (pos 0))) (paired : I.ambient ≡ J.ambient)
+module _ (I J : RelativeIdeal) (t list : List ℕ) (i : IsKept I.ambient I.generators t) (least : IsLeast J.generators (get_or J.generators 0 (pos 0))) (paired : I.ambient ≡ J.ambient)
     (s : IsReduced t (get_or J.generators 0 (pos 0)) J.generators list) where
+  -- the differences are told by a table
   pub difference-table : IsClosedTable I.ambient list
   difference-table = record {
     ambient = i.table.ambient;
@@ -146,6 +152,7 @@ module _ (I J : IdealValue) (t list : List ℕ) (i : IsKept I.ambient I.generato
         natural-at (IsAboveEntry t) ((h +ℤ pos (n + g)) -ℤ b) (m.0 + g) (omega (arith, ints, e)) (i.table.closed m.0 g listed m.2));
   }
 
+  -- that tells exactly them
   pub difference-same : (x : ℤ) → IsInDifference (IsIn I) (IsIn J) x ↔ IsFrom (get_or I.generators 0 (pos 0) -ℤ get_or J.generators 0 (pos 0)) list x
   difference-same x = (to, from)
     where
@@ -175,6 +182,7 @@ module _ (I J : IdealValue) (t list : List ℕ) (i : IsKept I.ambient I.generato
           (i.generates.same (x +ℤ y)).0 (natural-at (IsAboveEntry t) ((x +ℤ y) -ℤ a) (k.0 + r.0) h
           (above-member I.ambient t i.table k.0 r.0 k.2 (subst (λ G. IsMember G r.0) (sym paired) r.2)))
 
+-- what was reduced, by the least generator as it is passed
 pub passed-reduced : (t list : List ℕ) (I L : List ℤ) (l : ℤ) → L ≡ I → IsSmall l → l ≡ get_or I 0 (pos 0) → IsReduced t (to_z w64 (of_z w64 l)) L list → IsReduced t (get_or I 0 (pos 0)) I list
 passed-reduced t list I L l e small first h =
     let back : to_z w64 (of_z w64 l) ≡ get_or I 0 (pos 0) = omega (arith, ints, small, first) in

@@ -1,13 +1,20 @@
 -- A set and its sums with a distance that is added again and again.
-use Rattle.std.proofs.Common.{◌≡◌, ℕ, zero, suc, ◌+◌, ◌-◌, ◌*◌, ◌<◌, ◌≤◌, ◌↔◌, List, length, get_or, refl, sym, ap, subst, ◌∙◌, inl, inr, arith}
+use Rattle.std.proofs.Common.{◌≡◌, ℕ, zero, suc, ◌+◌, ◌-◌, ◌*◌, ◌<◌, ◌≤◌, ◌↔◌, List, length, get_or, refl, sym, ap, subst, ◌∙◌, inl, inr, true, rules, arith}
+use lib.Pointwise.{pointwise}
+use lib.Dec.{eqb}
 use Rattle.std.specs.Prelude.{◌⊎◌}
 use Rattle.std.proofs.lemmas.Bool.{cases_lt}
 use Rattle.std.proofs.Math.Nat.{add-mul-mod_self_left}
-use Rattle.sg_apery.specs.Classes.{IsAboveEntry}
+use Rattle.sg_classes.specs.Classes.{IsAboveEntry}
 use Rattle.sg_ideal.specs.Classes.{AreClasses, IsIdealTable, IsReach}
 use Rattle.sg_ideal.proofs.GenerateLemmas.{above-zero}
 use Rattle.sg_ideal.proofs.TableLemmas.{zero-entry}
 
+-- lists that compare as equal are equal
+pub same-slices : (x y : List ℕ) → true ≡ pointwise eqb x y → x ≡ y
+same-slices x y e = search rules
+
+-- the distance is added no times
 pub reach-none : (t : List ℕ) (b : ℕ) (list : List ℕ) → AreClasses t → list ≡ t → IsReach t b 0 list
 reach-none t b list c e = subst (IsReach t b 0) (sym e) (record {
   long = refl;
@@ -45,6 +52,7 @@ module _ (t : List ℕ) (b k more : ℕ) (list now : List ℕ) (q : ℕ) (e : q 
         (same n).1 (inr (omega (arith, s, p.2), (h.same (n - q)).1 (p.0 - more, omega arith, omega (arith, s, p.2), subst (IsAboveEntry t) f p.3)))
   ]
 
+  -- the distance is added more often
   pub reach-more : IsReach t b (k + more) now
   reach-more = record {
     long = long ∙ h.long;
@@ -72,6 +80,7 @@ module _ (t : List ℕ) (b k more : ℕ) (list : List ℕ) (some : 0 < more) (r 
       let f : (n + i * b) + b ≡ n + suc i * b = omega arith in
       subst (IsAboveEntry list) f (once (n + i * b) (often i n a))
 
+  -- then the set stays the same
   pub reach-stays : (count : ℕ) → k ≤ count → IsReach t b count list
   reach-stays count l = record {
     long = r.long;
@@ -89,6 +98,7 @@ above-more t n k a =
     omega (arith, e, a)
 
 module _ (t : List ℕ) (b c : ℕ) (list : List ℕ) (r : IsReach t b c list) where
+  -- the set has what it had
   pub reach-low : (n : ℕ) → IsAboveEntry t n → IsAboveEntry list n
   reach-low n a = let f : n ≡ n - 0 * b = omega arith in (r.same n).1 (0, omega arith, omega arith, subst (IsAboveEntry t) f a)
 
@@ -118,6 +128,7 @@ module _ (t : List ℕ) (b c : ℕ) (list : List ℕ) (r : IsReach t b c list) w
             (r.same (n + b)).1 (1, omega (arith, often, positive), omega arith, subst (IsAboveEntry t) f (above-more t (n - p.0 * b) b p.3))
       ]
 
+  -- it is still the table of an ideal
   pub reach-table : (G : List ℕ) → IsIdealTable G t → IsIdealTable G list
   reach-table G h = record {
     ambient = h.ambient;

@@ -1,17 +1,18 @@
 -- What generators move into a set, generator by generator; and the least number of a set.
-use Rattle.std.proofs.Common.{◌≡◌, ℕ, ◌+◌, ◌%◌, ◌<◌, ◌≤◌, ◌^◌, ◌↔◌, List, length, get_or, refl, sym, ap, subst, ◌∙◌, inl, inr, arith}
+use Rattle.std.proofs.Common.{◌≡◌, ℕ, ◌+◌, ◌%◌, ◌<◌, ◌≤◌, ◌↔◌, List, length, get_or, refl, sym, ap, subst, ◌∙◌, inl, inr, arith}
 use Rattle.std.specs.Prelude.{ℤ, pos, ◌+ℤ◌, ◌-ℤ◌, Contains}
 use Rattle.std.proofs.lemmas.Bool.{cases_lt}
 use Rattle.std.proofs.lemmas.Int.{ints}
 use Rattle.std.proofs.lemmas.Nat.{mod_below}
 use Rattle.std.proofs.lemmas.List.{get_or_default}
 use Rattle.std.proofs.Math.Nat.{mod-eq_of_lt, mod-le}
-use Rattle.sg_apery.specs.Classes.{IsAboveEntry}
+use Rattle.sg_classes.specs.declared.limits.TheConstants.{MULTIPLICITY_LIMIT}
+use Rattle.sg_classes.specs.Classes.{IsAboveEntry}
 use Rattle.sg_ideal.specs.Classes.{AreClasses, IsEveryClass, IsFrom, IsLeastAbove, IsRebased, IsReduced}
 use Rattle.sg_ideal.proofs.FromLemmas.{at-natural, natural-at}
 
 -- the classes of all naturals
-pub every-classes : (count : ℕ) (list : List ℕ) → 0 < count → count ≤ 2 ^ 20 → IsEveryClass count list → AreClasses list
+pub every-classes : (count : ℕ) (list : List ℕ) → 0 < count → count ≤ MULTIPLICITY_LIMIT → IsEveryClass count list → AreClasses list
 every-classes count list positive short h = record {
   not_empty = omega (arith, h.long);
   short = omega (arith, h.long);
@@ -42,6 +43,7 @@ moved-shift g base b n t e =
       (λ a. natural-at (IsAboveEntry t) ((g +ℤ pos n) -ℤ base) (n + b) f a),
     )
 
+-- what the distances of the first k generators move into the set
 pub record IsReducedSoFar (t : List ℕ) (base : ℤ) (I : List ℤ) (k : ℕ) (list : List ℕ) : Type 0 where
   pub long : length list ≡ length t
   pub classes : AreClasses list
@@ -54,6 +56,7 @@ reduced-none t base I list c e = subst (IsReducedSoFar t base I 0) (sym e) (reco
   same = λ n. ((λ h. (h, λ i l. absurd (omega arith))), (λ h. h.0));
 })
 
+-- one more generator
 pub reduced-more : (t : List ℕ) (base : ℤ) (I : List ℤ) (k : ℕ) (list now : List ℕ) (b : ℕ) → pos b ≡ get_or I k (pos 0) -ℤ base → length now ≡ length list → AreClasses now →
     ((n : ℕ) → IsAboveEntry now n ↔ (IsAboveEntry list n × IsAboveEntry t (n + b))) → IsReducedSoFar t base I k list → IsReducedSoFar t base I (k + 1) now
 reduced-more t base I k list now b e long classes same h = record {

@@ -1,7 +1,7 @@
 -- Residues of sums and differences.
 use Rattle.std.proofs.Common.{◌≡◌, ℕ, suc, ◌+◌, ◌-◌, ◌*◌, ◌/◌, ◌%◌, ◌<◌, ◌≤◌, sym, ap, ◌∙◌, arith}
 use Rattle.std.proofs.Math.Nat.{mod-add-div, mod-add-mod, add-mul-mod_self_left}
-use Rattle.sg_apery.proofs.ResidueLemmas.{same_residue-add}
+use Rattle.sg_classes.proofs.ResidueLemmas.{same_residue-add}
 
 -- a number, and what is missing of b to the next multiple of m
 round-up : (n b m : ℕ) → b % m ≤ m → n + b + (m - b % m) ≡ n + m * suc (b / m)
@@ -21,13 +21,6 @@ residue-plus w b i m positive h =
     let e : i + (m - b % m) + b ≡ i + m * suc (b / m) = omega (arith, round-up i b m (omega arith)) in
     let f : b + w ≡ w + b = omega arith in
     ap (λ x. x % m) f ∙ same_residue-add w (i + (m - b % m)) b m h ∙ ap (λ x. x % m) e ∙ add-mul-mod_self_left i m (suc (b / m))
-
--- the residue of a sum
-pub residue-add : (n b m : ℕ) → (n + b) % m ≡ (n % m + b % m) % m
-residue-add n b m =
-    let e : n % m + b ≡ b + n % m = omega arith in
-    let f : b % m + n % m ≡ n % m + b % m = omega arith in
-    sym (mod-add-mod n m b) ∙ ap (λ x. x % m) e ∙ sym (mod-add-mod b m (n % m)) ∙ ap (λ x. x % m) f
 
 -- taking b away undoes it
 pub residue-lowered : (w b i m : ℕ) → 0 < m → b ≤ w → w % m ≡ (i + b % m) % m → (w - b) % m ≡ i % m

@@ -4,7 +4,7 @@ use Rattle.std.specs.Prelude.{ℤ, pos, neg_ℤ, ◌+ℤ◌, ◌-ℤ◌, ◌<ℤ
 use Rattle.std.proofs.lemmas.Bool.{cases_lt}
 use Rattle.std.proofs.lemmas.Int.{ints}
 use Rattle.std.proofs.lemmas.List.{get_or_default}
-use Rattle.sg_apery.specs.Classes.{IsAboveEntry}
+use Rattle.sg_classes.specs.Classes.{IsAboveEntry}
 use Rattle.sg_ideal.specs.Classes.{AreClasses, IsFrom, IsSpread}
 use Rattle.sg_lawful.specs.declared.limits.TheConstants.{IDEAL_GENERATOR_LIMIT}
 use Rattle.sg_lawful.specs.Generators.{AreSmall}
@@ -14,11 +14,13 @@ use Rattle.sg_ideal.proofs.FromLemmas.{from-shift}
 abbrev pub IsLedTo : List ℕ → ℤ → List ℤ → ℕ → ℕ → Type 0
 IsLedTo t base I k n = (i : ℕ) × (i < k) × IsFrom (get_or I i (pos 0)) t (base +ℤ pos n)
 
+-- the sums with the distances of the first k generators, and the set itself
 pub record IsSpreadSoFar (t : List ℕ) (base : ℤ) (I : List ℤ) (k : ℕ) (list : List ℕ) : Type 0 where
   pub long : length list ≡ length t
   pub classes : AreClasses list
   pub same : (n : ℕ) → IsAboveEntry list n ↔ (IsAboveEntry t n ⊎ IsLedTo t base I k n)
 
+-- with none
 pub spread-none : (t : List ℕ) (base : ℤ) (I : List ℤ) (list : List ℕ) → AreClasses t → list ≡ t → IsSpreadSoFar t base I 0 list
 spread-none t base I list c e = subst (IsSpreadSoFar t base I 0) (sym e) (record {
   long = refl;
@@ -26,6 +28,7 @@ spread-none t base I list c e = subst (IsSpreadSoFar t base I 0) (sym e) (record
   same = λ n. ((λ h. inl h), (λ h. elim h [ inl h ↦ h | inr p ↦ absurd (let l = p.1 in omega arith) ]));
 })
 
+-- with one more generator
 pub spread-more : (t : List ℕ) (base : ℤ) (I : List ℤ) (k : ℕ) (list now : List ℕ) (b : ℕ) → pos b ≡ get_or I k (pos 0) -ℤ base → length now ≡ length list → AreClasses now →
     ((n : ℕ) → IsAboveEntry now n ↔ (IsAboveEntry list n ⊎ ((b ≤ n) × IsAboveEntry t (n - b)))) → IsSpreadSoFar t base I k list → IsSpreadSoFar t base I (k + 1) now
 spread-more t base I k list now b e long classes same h = record {
@@ -79,6 +82,7 @@ pub record IsPlaced (base g : ℤ) : Type 0 where
   pub low : neg_ℤ IDEAL_GENERATOR_LIMIT <ℤ base
   pub high : g <ℤ IDEAL_GENERATOR_LIMIT
 
+-- a generator lies between the least one and the limit
 pub generator-placed : (I : List ℤ) (base : ℤ) (k : ℕ) → Contains I base → AreSmall I → ((x : ℤ) → Contains I x → base ≤ℤ x) → k < length I → IsPlaced base (get_or I k (pos 0))
 generator-placed I base k listed small least inside =
     let here : Contains I (get_or I k (pos 0)) = (k, inside, get_or_default I k (get_or I k (pos 0)) (pos 0) inside) in

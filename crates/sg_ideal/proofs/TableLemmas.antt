@@ -1,5 +1,5 @@
 -- The tables of the semigroup itself and of what generators spread.
-use Rattle.std.proofs.Common.{◌≡◌, ◌≢◌, ℕ, ◌+◌, ◌%◌, ◌<◌, ◌≤◌, ◌^◌, ◌↔◌, List, length, get_or, ap, subst, ◌∙◌, inl, inr, arith}
+use Rattle.std.proofs.Common.{◌≡◌, ◌≢◌, ℕ, ◌+◌, ◌%◌, ◌<◌, ◌≤◌, ◌↔◌, List, length, get_or, ap, subst, ◌∙◌, inl, inr, arith}
 use Rattle.std.specs.Prelude.{Contains, ℤ, pos, nat_abs, ◌+ℤ◌, ◌-ℤ◌}
 use Rattle.std.proofs.lemmas.Bool.{cases_lt}
 use Rattle.std.proofs.lemmas.Int.{ints}
@@ -7,10 +7,11 @@ use Rattle.sg_defs.specs.Membership.{IsMember, IsIntegerMember}
 use Rattle.sg_defs.specs.Apery.{IsApery}
 use Rattle.sg_defs.specs.Ideals.{IsIdealMember}
 use Rattle.sg_defs.proofs.MembershipLemmas.{member-zero, member-add}
-use Rattle.sg_apery.specs.Classes.{IsAboveEntry}
-use Rattle.sg_apery.proofs.DerivedLemmas.{table-member, table-long, table-zero}
-use Rattle.sg_apery.proofs.GeneratorLemmas.{member-listed}
-use Rattle.sg_apery.proofs.KunzLemmas.{zero-residue}
+use Rattle.sg_classes.specs.declared.limits.TheConstants.{MULTIPLICITY_LIMIT, APERY_ENTRY_LIMIT}
+use Rattle.sg_classes.specs.Classes.{IsAboveEntry}
+use Rattle.sg_classes.proofs.TableLemmas.{table-member, table-long, table-zero}
+use Rattle.sg_classes.proofs.GeneratorLemmas.{member-listed}
+use Rattle.sg_classes.proofs.ResidueLemmas.{zero-residue}
 use Rattle.sg_ideal.specs.Value.{GeneratesIdeal, IsLeast}
 use Rattle.sg_ideal.specs.Classes.{IsFrom, IsIdealTable, IsSpread}
 use Rattle.sg_lawful.specs.Lawful.{IsLawfulList}
@@ -22,8 +23,8 @@ use Rattle.sg_ideal.proofs.FaultLemmas.{generates-same}
 pub zero-entry : (t : List ℕ) → 0 < length t → IsAboveEntry t 0 → get_or t 0 0 ≡ 0
 zero-entry t positive h = let e = ap (λ r. get_or t r 0) (zero-residue (length t) positive) in omega (arith, e, h)
 
-module _ (G t : List ℕ) (ambient : IsLawfulList G) (long : length t ≡ get_or G 0 0) (short : length t ≤ 2 ^ 20) (apery : IsApery G (get_or G 0 0) t)
-    (small : (i : ℕ) → i < length t → get_or t i 0 ≤ 2 ^ 52) where
+module _ (G t : List ℕ) (ambient : IsLawfulList G) (long : length t ≡ get_or G 0 0) (short : length t ≤ MULTIPLICITY_LIMIT) (apery : IsApery G (get_or G 0 0) t)
+    (small : (i : ℕ) → i < length t → get_or t i 0 ≤ APERY_ENTRY_LIMIT) where
   told : (x : ℕ) → IsMember G x ↔ IsAboveEntry t x
   told = table-member G t ambient.semigroup long apery
 
@@ -62,6 +63,7 @@ module _ (G t : List ℕ) (base : ℤ) (I : List ℤ) (list : List ℕ) (h : IsI
       let e : (base +ℤ pos (n + g)) -ℤ p.0 ≡ pos (k.0 + g) = omega (arith, ints, f) in
       (s.same (n + g)).1 (p.0, p.1, natural-at (IsAboveEntry t) ((base +ℤ pos (n + g)) -ℤ p.0) (k.0 + g) e (h.closed k.0 g listed k.2))
 
+  -- what was spread is the table of an ideal
   pub spread-table : IsIdealTable G list
   spread-table = record {
     ambient = h.ambient;
@@ -112,11 +114,13 @@ minimal-given G given I g x listed =
     ]
 
 -- what integers generate lies from the least of them on
-module _ (G t : List ℕ) (base : ℤ) (I : List ℤ) (list : List ℕ) (ambient : IsLawfulList G) (long : length t ≡ get_or G 0 0) (short : length t ≤ 2 ^ 20) (apery : IsApery G (get_or G 0 0) t)
-    (small : (i : ℕ) → i < length t → get_or t i 0 ≤ 2 ^ 52) (least : IsLeast I base) (s : IsSpread t base I list) where
+module _ (G t : List ℕ) (base : ℤ) (I : List ℤ) (list : List ℕ) (ambient : IsLawfulList G) (long : length t ≡ get_or G 0 0) (short : length t ≤ MULTIPLICITY_LIMIT) (apery : IsApery G (get_or G 0 0) t)
+    (small : (i : ℕ) → i < length t → get_or t i 0 ≤ APERY_ENTRY_LIMIT) (least : IsLeast I base) (s : IsSpread t base I list) where
+  -- so for the Apery list of the semigroup
   pub given-table : IsIdealTable G list
   given-table = spread-table G t base I list (semigroup-table G t ambient long short apery small) least s
 
+  -- it tells what the given integers generate
   pub given-same : (x : ℤ) → IsIdealMember G I x ↔ IsFrom base list x
   given-same x =
       let both = spread-from G t base I list (semigroup-table G t ambient long short apery small) least s x in (
@@ -124,5 +128,6 @@ module _ (G t : List ℕ) (base : ℤ) (I : List ℤ) (list : List ℕ) (ambient
         (λ f. let m = both.0 f in (m.0, m.1, (semigroup-from G t ambient long short apery small m.0 x).0 m.2)),
       )
 
+  -- each minimal generator is a given integer
   pub given-listed : (J : List ℤ) → GeneratesIdeal G (IsFrom base list) J → (x : ℤ) → Contains J x → Contains I x
   given-listed J g = minimal-given G I J (generates-same G (IsFrom base list) (IsIdealMember G I) given-same J g)

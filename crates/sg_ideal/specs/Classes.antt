@@ -1,9 +1,9 @@
 -- Sets of naturals that are closed under adding the modulus, by the least number in each residue class.
 use Rattle.std.specs.Prelude.{◌≡◌, ℕ, ℤ, pos, ◌+ℤ◌, ◌-ℤ◌, ◌+◌, ◌-◌, ◌*◌, ◌%◌, ◌<◌, ◌≤◌, ◌↔◌, List, length, slice_index, slice_index_or, Contains}
 use Rattle.sg_defs.specs.Membership.{AtNatural}
-use Rattle.sg_apery.specs.Classes.{IsAboveEntry}
+use Rattle.sg_classes.specs.Classes.{IsAboveEntry}
 use Rattle.sg_lawful.specs.Lawful.{IsLawfulList}
-use Rattle.sg_apery.specs.Limits.{APERY_ENTRY_LIMIT, MULTIPLICITY_LIMIT}
+use Rattle.sg_classes.specs.declared.limits.TheConstants.{APERY_ENTRY_LIMIT, MULTIPLICITY_LIMIT}
 use Rattle.sg_ideal.specs.Value.{GeneratesIdeal}
 use Rattle.sg_lawful.specs.Generators.{AreSmall}
 

@@ -2,7 +2,8 @@
 use Rattle.std.specs.Prelude.{◌≡◌, ◌≢◌, ℕ, ℤ, List, []}
 use Rattle.sg_ideal.specs.declared.fault.IdealFault.{IdealFault}
 use Rattle.sg_ideal.specs.declared.fault.IdealFault.TheVariants.{BadArgument, TooLarge, Memory}
-use Rattle.sg_ideal.specs.Value.{IdealValue, HasLargeGenerator}
+use Rattle.sg_ideal.specs.Value.{HasLargeGenerator}
+use Rattle.sg_defs.specs.Ideals.{RelativeIdeal}
 use Rattle.sg_lawful.specs.Generators.{AreSmall, HasLarge}
 
 -- an entry is past the limit; then there is none
@@ -24,7 +25,7 @@ IsListFault I TooLarge = HasLarge I
 IsListFault I (Memory e) = Unit {0}
 
 -- the ambients differ; or they are one, and a minimal generator of what the integers with P form is past the limit
-abbrev pub IsPairRefused : IdealValue → IdealValue → (ℤ → Type 0) → IdealFault → Type 0
+abbrev pub IsPairRefused : RelativeIdeal → RelativeIdeal → (ℤ → Type 0) → IdealFault → Type 0
 IsPairRefused I J P BadArgument = I.ambient ≢ J.ambient
 IsPairRefused I J P TooLarge = (I.ambient ≡ J.ambient) × HasLargeGenerator I.ambient P
 IsPairRefused I J P (Memory e) = Unit {0}

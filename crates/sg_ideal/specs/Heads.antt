@@ -1,6 +1,6 @@
 -- The minimal generators of a set of naturals that is told by residue classes.
 use Rattle.std.specs.Prelude.{ℕ, ℤ, pos, ◌+ℤ◌, ◌-◌, ◌%◌, ◌<◌, ◌≤◌, ◌≢◌, ◌↔◌, List, length, map, Contains, AllPairs}
-use Rattle.sg_apery.specs.Classes.{IsAboveEntry}
+use Rattle.sg_classes.specs.Classes.{IsAboveEntry}
 
 -- w less any generator of the semigroup is not in the set
 abbrev pub IsFree : List ℕ → List ℕ → ℕ → Type 0

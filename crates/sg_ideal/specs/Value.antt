@@ -1,16 +1,15 @@
 -- Relative ideals as contracts see them.
 use Rattle.std.specs.Prelude.{◌≡◌, ℕ, zero, suc, ◌+ℤ◌, ◌-◌, ◌<◌, ℤ, pos, negsuc, ◌-ℤ◌, slice_index_or, ◌≤ℤ◌, ◌↔◌, List, length, Contains}
-use Rattle.sg_defs.specs.Ideals.{IsIdealMember, IsMinimalIdeal}
+use Rattle.sg_defs.specs.Ideals.{RelativeIdeal, IsIdealMember, IsMinimalIdeal}
 pub use Rattle.sg_lawful.specs.Generators.{IsSmall, IsLarge, AreSmall, HasLarge}
-use Rattle.sg_apery.specs.Limits.{APERY_ENTRY_LIMIT}
+use Rattle.sg_classes.specs.declared.limits.TheConstants.{APERY_ENTRY_LIMIT}
 
--- the minimal generators of the ambient semigroup, and those of the ideal
-pub record IdealValue : Type 0 where
-  pub ambient : List ℕ
-  pub generators : List ℤ
+-- an ideal as contracts see it
+abbrev pub IdealValue : Type 0
+IdealValue = RelativeIdeal
 
 -- x is a member of the ideal
-abbrev pub IsIn : IdealValue → ℤ → Type 0
+abbrev pub IsIn : RelativeIdeal → ℤ → Type 0
 IsIn I x = IsIdealMember I.ambient I.generators x
 
 -- a member of both
@@ -29,7 +28,7 @@ pub record GeneratesIdeal (G : List ℕ) (P : ℤ → Type 0) (I : List ℤ) : T
   pub same : (x : ℤ) → P x ↔ IsIdealMember G I x
 
 -- the ideal of the integers with P over G, all of whose minimal generators are within the limit
-pub record IsIdealOf (G : List ℕ) (P : ℤ → Type 0) (I : IdealValue) : Type 0 where
+pub record IsIdealOf (G : List ℕ) (P : ℤ → Type 0) (I : RelativeIdeal) : Type 0 where
   pub ambient : I.ambient ≡ G
   pub generates : GeneratesIdeal G P I.generators
   pub small : AreSmall I.generators

@@ -1,7 +1,7 @@
 //! Sets of naturals by the least number in each residue class.
 
 ghost use Rattle.std.specs.Prelude.{◌≡◌, ◌+◌, ◌-◌, ◌^◌, ◌<◌, ◌≤◌, ◌⊎◌, ◌↔◌, ℕ, ℤ, ◌≤ℤ◌, length, Contains, IfOk, IsTrue};
-ghost use Rattle.sg_apery.specs.Classes.{IsAboveEntry};
+ghost use Rattle.sg_classes.specs.Classes.{IsAboveEntry};
 ghost use Rattle.sg_ideal.specs.Classes.{AreClasses, IsEveryClass, IsLeastAbove, IsReach, IsRebased, IsReduced, IsSpread};
 ghost use Rattle.sg_ideal.specs.Value.{IsLeast};
 ghost use Rattle.sg_lawful.specs.Generators.{AreSmall};

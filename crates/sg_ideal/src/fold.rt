@@ -89,7 +89,8 @@ fn fold(alloc: Global, k: u64, a: &Ideal) -> Result<Vec<u64>, AllocError>
 
 /// The sums of `k` members.
 ///
-/// BadArgument where `k` is 0; then TooLarge where a minimal generator's absolute value is 2^32 or more.
+/// BadArgument where `k` is 0; then TooLarge where a minimal generator's absolute value is `IDEAL_GENERATOR_LIMIT` or
+/// more.
 pub fn multiple(alloc: Global, k: u64, a: &Ideal) -> Result<Ideal, IdealFault>
     ensures made { IfOk result (IsIdealOf a.now.ambient (IsInMultiple k (IsIn a.now))) }
     ensures positive { OnOk result (0 < k) }

@@ -3,7 +3,7 @@
 ghost use Rattle.std.specs.Prelude.{◌≡◌, ◌*◌, ◌^◌, ◌<◌, ◌≤◌, ◌↔◌, ℤ, pos, neg_ℤ, ◌≤ℤ◌, ◌<ℤ◌, length, slice_index, EachIndex, IfOk, IfErr, IsTrue};
 ghost use Rattle.std.specs.List.Sorted.{IsStrictlyIncreasing};
 ghost use Rattle.sg_defs.specs.Listings.{Lists};
-ghost use Rattle.sg_apery.specs.Classes.{IsAboveEntry};
+ghost use Rattle.sg_classes.specs.Classes.{IsAboveEntry};
 ghost use Rattle.sg_ideal.specs.Classes.{AreClasses, IsIdealTable};
 ghost use Rattle.sg_ideal.specs.Heads.{CollectsHeads, IsFree, IsHead, raised_by};
 ghost use Rattle.sg_ideal.specs.Faults.{IsListFault};

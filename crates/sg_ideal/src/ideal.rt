@@ -1,11 +1,11 @@
 //! Relative ideals, and what they answer.
 
 ghost use Rattle.std.specs.Prelude.{◌≡◌, ◌<◌, ◌↔◌, ℤ, pos, length, slice_index_or, IfOk, IfErr, OnOk, IsTrue};
-ghost use Rattle.sg_defs.specs.Ideals.{IsIdealMember, IsMinimalIdeal};
+ghost use Rattle.sg_defs.specs.Ideals.{IsIdealMember, IsMinimalIdeal, RelativeIdeal};
 ghost use Rattle.sg_defs.specs.Membership.{IsNumericalSemigroup};
 ghost use Rattle.sg_ideal.specs.Classes.{HasEntries, IsKept};
 ghost use Rattle.sg_ideal.specs.Faults.{AreRefused};
-ghost use Rattle.sg_ideal.specs.Value.{IdealValue, IsIdealOf, IsIn, IsLeast};
+ghost use Rattle.sg_ideal.specs.Value.{IsIdealOf, IsIn, IsLeast};
 ghost use Rattle.sg_lawful.specs.Generators.{AreSmall, IsSmall};
 
 use crate::classes::{is_above, spread};
@@ -29,9 +29,9 @@ pub struct Ideal {
 }
 
 impl Model for Ideal {
-    ghost use Rattle.sg_ideal.specs.Value.{IdealValue};
+    ghost use Rattle.sg_defs.specs.Ideals.{RelativeIdeal};
 
-    ghost Value = { IdealValue };
+    ghost Value = { RelativeIdeal };
 
     ghost view = { λ ideal. record { ambient = ideal.ambient; generators = ideal.generators } };
 
@@ -56,7 +56,8 @@ impl Ideal {
 
     /// The ideal that integers generate: the sums of one of them and a member of the semigroup.
     ///
-    /// TooLarge where an integer's absolute value is 2^32 or more; then BadArgument where there is none.
+    /// TooLarge where an integer's absolute value is `IDEAL_GENERATOR_LIMIT` or more; then BadArgument where there is
+    /// none.
     pub fn of_generators(alloc: Global, t: &Table, given: &[i64]) -> Result<Ideal, IdealFault>
         ensures made { IfOk result (IsIdealOf t.now (IsIdealMember t.now given.now)) }
         ensures small { OnOk result (AreSmall given.now) }

@@ -12,7 +12,7 @@ use std::alloc::Global;
 
 /// The sums of `x` and a member.
 ///
-/// TooLarge where a minimal generator's absolute value is 2^32 or more, and no other fault.
+/// TooLarge where a minimal generator's absolute value is `IDEAL_GENERATOR_LIMIT` or more, and no other fault.
 pub fn translate(alloc: Global, x: i64, a: &Ideal) -> Result<Ideal, IdealFault>
     ensures made { IfOk result (IsIdealOf a.now.ambient (IsInTranslate x (IsIn a.now))) }
     ensures refused { IfErr result (IsSizeFault a.now.ambient (IsInTranslate x (IsIn a.now))) }

@@ -64,7 +64,7 @@ fn reflected(alloc: Global, highest: i64, numbers: &[i64]) -> Result<Ints, Alloc
 /// each pseudo-Frobenius number is a minimal generator of it, and there are no others (Rosales and Garcia-Sanchez,
 /// Numerical Semigroups, 2009). `pf` are the table's pseudo-Frobenius numbers.
 ///
-/// TooLarge where a minimal generator's absolute value is 2^32 or more, and no other fault.
+/// TooLarge where a minimal generator's absolute value is `IDEAL_GENERATOR_LIMIT` or more, and no other fault.
 pub fn canonical(alloc: Global, t: &Table, pf: &Ints) -> Result<Ideal, IdealFault>
     requires { ListsIntegers (IsPseudoFrobenius t.now) pf.now }
     ensures made { IfOk result (IsIdealOf t.now (IsInCanonical t.now)) }

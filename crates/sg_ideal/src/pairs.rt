@@ -22,8 +22,8 @@ fn is_paired(a: &Ideal, b: &Ideal) -> bool
 
 /// The sums of a member of each.
 ///
-/// BadArgument where the ambient semigroups differ; then TooLarge where a minimal generator's absolute value is 2^32
-/// or more.
+/// BadArgument where the ambient semigroups differ; then TooLarge where a minimal generator's absolute value is
+/// `IDEAL_GENERATOR_LIMIT` or more.
 pub fn sum(alloc: Global, a: &Ideal, b: &Ideal) -> Result<Ideal, IdealFault>
     ensures made { IfOk result (IsIdealOf a.now.ambient (IsInSum (IsIn a.now) (IsIn b.now))) }
     ensures paired { OnOk result (a.now.ambient ≡ b.now.ambient) }
@@ -62,8 +62,8 @@ fn common(alloc: Global, a: &Ideal, b: &Ideal, base: i64) -> Result<Vec<u64>, Al
 
 /// The integers that are members of both.
 ///
-/// BadArgument where the ambient semigroups differ; then TooLarge where a minimal generator's absolute value is 2^32
-/// or more.
+/// BadArgument where the ambient semigroups differ; then TooLarge where a minimal generator's absolute value is
+/// `IDEAL_GENERATOR_LIMIT` or more.
 pub fn intersect(alloc: Global, a: &Ideal, b: &Ideal) -> Result<Ideal, IdealFault>
     ensures made { IfOk result (IsIdealOf a.now.ambient (IsInBoth (IsIn a.now) (IsIn b.now))) }
     ensures paired { OnOk result (a.now.ambient ≡ b.now.ambient) }
@@ -79,8 +79,8 @@ pub fn intersect(alloc: Global, a: &Ideal, b: &Ideal) -> Result<Ideal, IdealFaul
 
 /// The integers that move each member of the second into the first.
 ///
-/// BadArgument where the ambient semigroups differ; then TooLarge where a minimal generator's absolute value is 2^32
-/// or more.
+/// BadArgument where the ambient semigroups differ; then TooLarge where a minimal generator's absolute value is
+/// `IDEAL_GENERATOR_LIMIT` or more.
 pub fn subtract(alloc: Global, a: &Ideal, b: &Ideal) -> Result<Ideal, IdealFault>
     ensures made { IfOk result (IsIdealOf a.now.ambient (IsInDifference (IsIn a.now) (IsIn b.now))) }
     ensures paired { OnOk result (a.now.ambient ≡ b.now.ambient) }

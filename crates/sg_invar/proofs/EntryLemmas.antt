@@ -1,20 +1,14 @@
 -- Entries of an Apery list: each is the one number of its class that is a member and whose difference with the
 -- modulus is none.
-use Rattle.std.proofs.Common.{◌≡◌, ℕ, zero, suc, ◌+◌, ◌-◌, ◌*◌, ◌%◌, ◌<◌, ◌≤◌, List, sym, subst, ◌∙◌, refl, inl, inr, arith}
-use Rattle.std.specs.Prelude.{◌⊎◌, pos, negsuc, ◌-ℤ◌}
+use Rattle.std.proofs.Common.{◌≡◌, ℕ, zero, suc, ◌+◌, ◌*◌, ◌%◌, ◌<◌, ◌≤◌, List, sym, subst, ◌∙◌, refl, inl, inr, arith}
+use Rattle.std.specs.Prelude.{pos, ◌-ℤ◌}
 use Rattle.std.proofs.lemmas.Bool.{cases_lt}
 use Rattle.std.proofs.lemmas.Int.{ints}
 use Rattle.sg_defs.specs.Membership.{IsMember, IsIntegerMember}
 use Rattle.sg_defs.specs.Apery.{IsAperyEntry}
 use Rattle.sg_defs.proofs.MembershipLemmas.{member-add, member-times}
 use Rattle.sg_apery.proofs.AperyLemmas.{congruent-split}
-
--- the difference of two naturals is a natural or below 0
-pub minus_cases : (g m : ℕ) → ((y : ℕ) × (y + m ≡ g) × (pos g -ℤ pos m ≡ pos y)) ⊎ ((y : ℕ) × (g + suc y ≡ m) × (pos g -ℤ pos m ≡ negsuc y))
-minus_cases g m = elim (cases_lt g m) [
-  | inl less ↦ inr (m - suc g, omega arith, omega (arith, ints))
-  | inr more ↦ inl (g - m, omega arith, omega (arith, ints))
-]
+use Rattle.sg_apery.proofs.SpanLemmas.{minus_cases}
 
 -- an entry less the modulus is no member
 pub entry-outside : (G : List ℕ) (m i w : ℕ) → IsAperyEntry G m i w → IsIntegerMember G (pos w -ℤ pos m) → ⊥

@@ -11,7 +11,7 @@ use Rattle.sg_defs.specs.Vectors.{value_of}
 use Rattle.sg_defs.specs.Membership.{IsMember, Holds}
 use Rattle.sg_defs.specs.Symmetry.{IsProperlyAbove}
 use Rattle.sg_defs.proofs.MembershipLemmas.{member-zero, member-add, member-entry, member-induction}
-use Rattle.sg_apery.proofs.GeneratorLemmas.{holds-from_entries, member-divides}
+use Rattle.sg_classes.proofs.GeneratorLemmas.{holds-from_entries, member-divides}
 
 -- the entries above 0
 abbrev positives : List ℕ → List ℕ
@@ -83,6 +83,7 @@ added-member G x n a h = member-induction (λ n. IsMember G n ⊎ (n ≡ x)) (x 
         let g : 0 < get_or (positives G) i 0 = omega (arith, positives-positive G i 0 inside) in
         other (get_or (positives G) i 0) n g (positives-held G (get_or (positives G) i 0) (member-entry (positives G) i inside)) p
 
+-- the old members are members
 pub added-holds : (G : List ℕ) (x : ℕ) → Holds (with_gap G x) G
 added-holds G x n h =
     holds-from_entries (x ∷ positives G) (positives G) (λ k l. member-entry (x ∷ positives G) (suc k) (omega arith)) n (positives-hold G n h)

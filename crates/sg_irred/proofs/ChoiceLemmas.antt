@@ -11,7 +11,7 @@ use Rattle.sg_defs.specs.Membership.{IsMember}
 use Rattle.sg_defs.proofs.ListLemmas.{contains-cases}
 use Rattle.sg_defs.specs.Invariants.{IsGap}
 use Rattle.sg_defs.specs.Decomposition.{IsInCover, IsInEachCover, IsChosen}
-use Rattle.sg_apery.specs.Limits.{APERY_ENTRY_LIMIT}
+use Rattle.sg_classes.specs.declared.limits.TheConstants.{APERY_ENTRY_LIMIT}
 use Rattle.sg_irred.specs.Cover.{AreNatural}
 
 -- h is a natural that lies in the cover of k

@@ -4,7 +4,7 @@ use Rattle.std.specs.Prelude.{◌⊎◌}
 use Rattle.std.proofs.lemmas.Bool.{cases_lt}
 use Rattle.std.proofs.lemmas.List.{length_push}
 use Rattle.sg_defs.specs.Listings.{Lists}
-use Rattle.sg_apery.proofs.OneListLemmas.{same-increasing}
+use Rattle.sg_classes.proofs.OneListLemmas.{same-increasing}
 use Rattle.sg_invar.proofs.ListingLemmas.{ListsBelow, lists-none, lists-push, lists-skip}
 
 -- 1 for what passes, and 0 for what does not
@@ -12,6 +12,7 @@ abbrev pub one_if : Bool → ℕ
 one_if true = 1
 one_if false = 0
 
+-- how many numbers below n pass
 abbrev pub count_below : (ℕ → Bool) → ℕ → ℕ
 count_below p zero = 0
 count_below p (suc n) = count_below p n + one_if (p n)
@@ -20,17 +21,21 @@ count_below p (suc n) = count_below p n + one_if (p n)
 abbrev pub both : (ℕ → Bool) → (ℕ → Bool) → ℕ → Bool
 both p q x = cond (p x) (q x) false
 
+-- a truth value is one of the two
 pub told : (b : Bool) → (b ≡ true) ⊎ (b ≡ false)
 told true = inl refl
 told false = inr refl
 
+-- and not both
 pub never : {P : Type 0} (b : Bool) → b ≡ true → b ≡ false → P
 never b e f = absurd cc
 
+-- where both pass, each does
 pub both-true : (a b : Bool) → cond a b false ≡ true → (a ≡ true) × (b ≡ true)
 both-true true b e = (refl, e)
 both-true false b e = absurd cc
 
+-- where each passes, both do
 pub true-both : (a b : Bool) → a ≡ true → b ≡ true → cond a b false ≡ true
 true-both true b e f = f
 true-both false b e f = absurd cc
@@ -55,10 +60,12 @@ pub count-pair : (p q : ℕ → Bool) (n : ℕ) → ((x : ℕ) → x < n → p x
 count-pair p q zero h = refl
 count-pair p q (suc n) h = omega (arith, count-pair p q n (λ x l. h x (omega arith)), one_if-pair (p n) (q n) (h n (omega arith)))
 
+-- where none passes, there are none
 pub count-none : (p : ℕ → Bool) (n : ℕ) → ((x : ℕ) → x < n → p x ≡ false) → count_below p n ≡ 0
 count-none p zero h = refl
 count-none p (suc n) h = omega (arith, count-none p n (λ x l. h x (omega arith)), ap one_if (h n (omega arith)))
 
+-- where one passes, there is one
 pub count-some : (p : ℕ → Bool) (n x : ℕ) → x < n → p x ≡ true → 1 ≤ count_below p n
 count-some p zero x l h = absurd (omega arith)
 count-some p (suc n) x l h = elim (cases_lt x n) [
@@ -66,6 +73,7 @@ count-some p (suc n) x l h = elim (cases_lt x n) [
   | inr more ↦ let e : x ≡ n = omega arith in omega (arith, ap one_if (subst (λ y. p y ≡ true) e h))
 ]
 
+-- where two different ones pass, there are two
 pub count-two : (p : ℕ → Bool) (n x y : ℕ) → x < y → y < n → p x ≡ true → p y ≡ true → 2 ≤ count_below p n
 count-two p zero x y l k h g = absurd (omega arith)
 count-two p (suc n) x y l k h g = elim (cases_lt y n) [

@@ -9,14 +9,15 @@ use Rattle.std.proofs.lemmas.List.{length_push, length-set, get_or-set_same, get
 use Rattle.std.proofs.Math.Nat.{add-mod_right, mod-eq_of_lt}
 use Rattle.sg_defs.specs.Membership.{IsMember, IsIntegerMember, Generates}
 use Rattle.sg_defs.specs.Invariants.{IsFrobenius}
-use Rattle.sg_apery.specs.Classes.{IsAboveEntry, IsKunz}
-use Rattle.sg_apery.specs.Fit.{IsPastLimits, IsSpan, IsTooLarge}
-use Rattle.sg_apery.specs.Limits.{GENERATOR_LIMIT, MULTIPLICITY_LIMIT, SPAN_LIMIT}
-use Rattle.sg_apery.proofs.AperyLemmas.{congruent-split}
-use Rattle.sg_apery.proofs.EntryLemmas.{first-least}
-use Rattle.sg_apery.proofs.GeneratorLemmas.{member-split}
-use Rattle.sg_apery.proofs.OneListLemmas.{entry-listed}
-use Rattle.sg_apery.proofs.KunzLemmas.{residue-sum, class-semigroup, member-made, above-member}
+use Rattle.sg_classes.specs.Classes.{IsAboveEntry, IsKunz}
+use Rattle.sg_classes.specs.Fit.{IsPastLimits, IsSpan, IsTooLarge}
+use Rattle.sg_classes.specs.declared.limits.TheConstants.{GENERATOR_LIMIT, MULTIPLICITY_LIMIT, SPAN_LIMIT}
+use Rattle.sg_classes.proofs.AperyLemmas.{congruent-split}
+use Rattle.sg_defs.proofs.MinimalLemmas.{first-least}
+use Rattle.sg_classes.proofs.GeneratorLemmas.{member-split}
+use Rattle.sg_classes.proofs.OneListLemmas.{entry-listed}
+use Rattle.sg_classes.proofs.KunzLemmas.{class-semigroup, member-made, above-member}
+use Rattle.sg_classes.proofs.ResidueLemmas.{residue-sum}
 use Rattle.sg_irred.specs.Cover.{HasLesser, IsLeastInCover, IsCoverList}
 use Rattle.sg_defs.specs.Decomposition.{IsInCover}
 use Rattle.sg_defs.proofs.MembershipLemmas.{member-zero, member-add, member-times}
@@ -33,11 +34,13 @@ pub below-zero : (G : List ℕ) (x : ℤ) → x <ℤ pos 0 → IsIntegerMember G
 below-zero G (pos n) l p = omega (arith, ints, l)
 below-zero G (negsuc n) l p = p
 
+-- what is new lies in the cover
 pub cover-from_new : (G : List ℕ) (h : ℤ) (x : ℕ) → IsNew G h x → IsInCover G h x
 cover-from_new G h x n = by_lt_z h (pos x) (λ past. inr (inl past)) (λ (within : pos x ≤ℤ h). by_lt_z (pos x) h
     (λ less. inr (inr (n.past, less, n.outside)))
     (λ (more : h ≤ℤ pos x). absurd (n.outside (subst (IsIntegerMember G) (let e : pos 0 ≡ h -ℤ pos x = omega (arith, ints, within, more) in e) (member-zero G)))))
 
+-- what lies in the cover is a member or new
 pub cover-split : (G : List ℕ) (h : ℤ) (x : ℕ) → pos 0 ≤ℤ h → IsInCover G h x → IsMember G x ⊎ IsNew G h x
 cover-split G h x natural c = elim c [
   | inl member ↦ inl member
@@ -54,6 +57,7 @@ new-add G h x s n p = record {
   outside = λ q. n.outside (subst (IsIntegerMember G) (let e : (h -ℤ pos (x + s)) +ℤ pos s ≡ h -ℤ pos x = omega (arith, ints) in e) (integer_member-add G (h -ℤ pos (x + s)) s q p));
 }
 
+-- sums of numbers of the cover lie in it
 pub cover-add : (G : List ℕ) (h : ℤ) (x y : ℕ) → pos 0 ≤ℤ h → IsInCover G h x → IsInCover G h y → IsInCover G h (x + y)
 cover-add G h x y natural p q = elim (cover-split G h x natural p) [
   | inl a ↦ elim (cover-split G h y natural q) [
@@ -66,6 +70,7 @@ cover-add G h x y natural p q = elim (cover-split G h x natural p) [
   ]
 ]
 
+-- members lie in it
 pub cover-member : (G : List ℕ) (h : ℤ) (x : ℕ) → IsMember G x → IsInCover G h x
 cover-member G h x p = inl p
 
@@ -80,6 +85,7 @@ lesser-step G h least from m first t e =
 pub least-class : (G : List ℕ) (h : ℤ) (v w i : ℕ) → IsLeastInCover G h v w → v % get_or G 0 0 ≡ i → i < get_or G 0 0 → IsLeastInCover G h i w
 least-class G h v w i r e l = record { covered = r.covered; residue = r.residue ∙ e ∙ sym (mod-eq_of_lt l); least = r.least }
 
+-- one more class of the list
 pub cover_list-push : (G : List ℕ) (h : ℤ) (n w : ℕ) (l : List ℕ) → IsLeastInCover G h n w → IsCoverList G h n l → IsCoverList G h (n + 1) (l ++ w ∷ [])
 cover_list-push G h n w l here before = record {
   entries = omega (arith, length_push l w, before.entries);
@@ -207,12 +213,15 @@ module _ (G : List ℕ) (h : ℤ) (l : List ℕ) (natural : pos 0 ≤ℤ h) (c :
   first_member : IsMember G (get_or G 0 0)
   first_member = multiplicity-member G (get_or G 0 0) some refl
 
+  -- the least numbers of the cover are an Apery list
   pub list-kunz : IsKunz l
   list-kunz = cover-kunz G h (get_or G 0 0) l natural some refl first_member c
 
+  -- what they generate is the cover
   pub list-generates : (M : List ℕ) → Generates (IsAboveEntry l) M → Generates (IsInCover G h) M
   list-generates = cover-generates G h (get_or G 0 0) l natural some refl first_member c
 
+  -- it is within the limits
   pub list-fits : length l ≤ MULTIPLICITY_LIMIT → (s : ℕ) → IsSpan G s → s ≤ SPAN_LIMIT → IsTooLarge (IsAboveEntry l) → ⊥
   list-fits short s span within large =
       let e = span.2 in

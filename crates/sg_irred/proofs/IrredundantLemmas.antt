@@ -12,8 +12,8 @@ use Rattle.sg_defs.specs.Invariants.{IsFrobenius, IsGap, IsSpecialGap}
 use Rattle.sg_defs.specs.Symmetry.{IsIrreducible}
 use Rattle.sg_defs.specs.Decomposition.{IsInCover, IsInEachCover, IsChosen, IsInAll, IsIrredundant}
 use Rattle.sg_defs.proofs.MembershipLemmas.{member-zero}
-use Rattle.sg_apery.specs.Fit.{IsSpan}
-use Rattle.sg_apery.specs.Limits.{SPAN_LIMIT}
+use Rattle.sg_classes.specs.Fit.{IsSpan}
+use Rattle.sg_classes.specs.declared.limits.TheConstants.{SPAN_LIMIT}
 use Rattle.sg_irred.specs.Cover.{AreNatural}
 use Rattle.sg_defs.proofs.SymmetryLemmas.{symmetric-irreducible}
 use Rattle.sg_irred.proofs.TestLemmas.{naturals-symmetric}

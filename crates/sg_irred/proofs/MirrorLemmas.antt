@@ -45,6 +45,7 @@ abbrev pub pairs : (G : List ℕ) → ((n : ℕ) → IsMember G n ⊎ IsGap G n)
 pairs G split F = count_below (pair_test G split F) (suc F)
 
 module _ (G : List ℕ) (F : ℕ) (h : IsFrobenius G (pos F)) (split : (n : ℕ) → IsMember G n ⊎ IsGap G n) where
+  -- past F are members alone
   pub beyond : (n : ℕ) → F < n → IsMember G n
   beyond n l = h.above (pos n) (omega (arith, ints))
 
@@ -52,6 +53,7 @@ module _ (G : List ℕ) (F : ℕ) (h : IsFrobenius G (pos F)) (split : (n : ℕ)
   apart : (n : ℕ) → n ≤ F → IsMember G n → IsMember G (F - n) → ⊥
   apart n l a b = h.outside (subst (IsMember G) (let e : n + (F - n) ≡ F = omega arith in e) (member-add G n (F - n) a b))
 
+  -- a gap is at most F
   pub gap-within : (n : ℕ) → IsGap G n → n < suc F
   gap-within n gap = elim (cases_lt n (suc F)) [
     | inl less ↦ less
@@ -62,6 +64,7 @@ module _ (G : List ℕ) (F : ℕ) (h : IsFrobenius G (pos F)) (split : (n : ℕ)
   genus-count g genus = sym genus.2 ∙ count-listed (IsGap G) (gap_test G split) (suc F) genus.0
       (λ x gap. second-told (IsMember G x) (split x) gap) (λ x e. second-true (IsMember G x) (split x) e) gap-within genus.1
 
+  -- twice the genus is F + 1 and the number of gaps n for which F - n is a gap too
   pub twice-genus : (g : ℕ) → IsGenus G g → 2 * g ≡ suc F + pairs G split F
   twice-genus g genus =
       let r = count-reversed (gap_test G split) (mirror_test G split F) (suc F)
@@ -70,14 +73,17 @@ module _ (G : List ℕ) (F : ℕ) (h : IsFrobenius G (pos F)) (split : (n : ℕ)
       (λ x l e. second-told (IsMember G (F - x)) (split (F - x)) (apart x (omega arith) (second-false (IsMember G x) (split x) e))) in
       omega (arith, genus-count g genus, r, c)
 
+  -- the test tells two gaps
   pub paired-gaps : (n : ℕ) → pair_test G split F n ≡ true → IsGap G n × IsGap G (F - n)
   paired-gaps n e =
       let b = both-true (gap_test G split n) (mirror_test G split F n) e in
       (second-true (IsMember G n) (split n) b.0, second-true (IsMember G (F - n)) (split (F - n)) b.1)
 
+  -- of two gaps the test tells
   pub gaps-paired : (n : ℕ) → IsGap G n → IsGap G (F - n) → pair_test G split F n ≡ true
   gaps-paired n a b = true-both (gap_test G split n) (mirror_test G split F n) (second-told (IsMember G n) (split n) a) (second-told (IsMember G (F - n)) (split (F - n)) b)
 
+  -- the test tells the same of F - n
   pub paired-mirror : (n : ℕ) → n < suc F → pair_test G split F n ≡ true → pair_test G split F (F - n) ≡ true
   paired-mirror n l e =
       let g = paired-gaps n e in
@@ -119,6 +125,7 @@ module _ (G : List ℕ) (F : ℕ) (h : IsFrobenius G (pos F)) (split : (n : ℕ)
   one-not_paired n l (inr other) e =
       (paired-gaps n e).1 (subst (IsIntegerMember G) (let d : pos F -ℤ pos n ≡ pos (F - n) = omega (arith, ints) in d) other)
 
+  -- without such gaps the semigroup is symmetric
   pub symmetric-from_none : pairs G split F ≡ 0 → IsSymmetric G
   symmetric-from_none none = record {
     frobenius = pos F;
@@ -126,6 +133,7 @@ module _ (G : List ℕ) (F : ℕ) (h : IsFrobenius G (pos F)) (split : (n : ℕ)
     mirrored = λ x. mirrored-unless x (λ n e l b. omega (arith, none, count-some (pair_test G split F) (suc F) n l b));
   }
 
+  -- and a symmetric one has none
   pub none-from_symmetric : IsSymmetric G → pairs G split F ≡ 0
   none-from_symmetric s =
       let same = one-frobenius G s.frobenius (pos F) s.is_frobenius h in
@@ -134,6 +142,7 @@ module _ (G : List ℕ) (F : ℕ) (h : IsFrobenius G (pos F)) (split : (n : ℕ)
         | inr fails ↦ fails
       ])
 
+  -- with one such gap it is pseudo-symmetric
   pub pseudo_symmetric-from_one : pairs G split F ≡ 1 → IsPseudoSymmetric G
   pseudo_symmetric-from_one one = elim (greatest-with (pair_test G split F) (suc F)) [
     | inl found ↦ from_pair found.0 found.1 found.2
@@ -151,6 +160,7 @@ module _ (G : List ℕ) (F : ℕ) (h : IsFrobenius G (pos F)) (split : (n : ℕ)
                 (mirrored-unless x (λ k e m c. differs (e ∙ ap pos (same-pair k n m l c b (omega (arith, one))))));
           }
 
+  -- and a pseudo-symmetric one has one
   pub one-from_pseudo_symmetric : IsPseudoSymmetric G → pairs G split F ≡ 1
   one-from_pseudo_symmetric s =
       let same = one-frobenius G (s.half +ℤ s.half) (pos F) s.is_frobenius h in

@@ -31,6 +31,7 @@ module _ (G : List ℕ) (h : IsFrobenius G (negsuc 0)) where
   }
   mirrored (negsuc a) = record { one = inr (h.above (negsuc 0 -ℤ negsuc a) (omega (arith, ints))); apart = λ p q. p }
 
+  -- all naturals are a symmetric semigroup
   pub naturals-symmetric : IsSymmetric G
   naturals-symmetric = record { frobenius = negsuc 0; is_frobenius = h; mirrored = mirrored }
 
@@ -118,16 +119,19 @@ module _ (G : List ℕ) (c g : ℕ) (h : IsConductor G c) (split : (n : ℕ) →
   low : negsuc 0 ≤ℤ (pos c -ℤ pos 1)
   low = omega (arith, ints)
 
+  -- symmetric: twice the genus is the conductor
   pub symmetric-by_conductor : (2 * g ≡ c) ↔ IsSymmetric G
   symmetric-by_conductor =
       let t = symmetric-told G (pos c -ℤ pos 1) g h low split genus in
       ((λ e. t.0 (omega (arith, ints, e))), (λ s. let e = t.1 s in omega (arith, ints, e)))
 
+  -- pseudo-symmetric: twice the genus is the conductor and 1
   pub pseudo_symmetric-by_conductor : (2 * g ≡ c + 1) ↔ IsPseudoSymmetric G
   pseudo_symmetric-by_conductor =
       let t = pseudo_symmetric-told G (pos c -ℤ pos 1) g h low split genus in
       ((λ e. t.0 (omega (arith, ints, e))), (λ s. let e = t.1 s in omega (arith, ints, e)))
 
+  -- irreducible: one of the two
   pub irreducible-by_conductor : ((2 * g ≡ c) ⊎ (2 * g ≡ c + 1)) ↔ IsIrreducible G
   irreducible-by_conductor =
       let t = irreducible-told G (pos c -ℤ pos 1) g h low split genus in (

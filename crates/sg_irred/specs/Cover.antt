@@ -1,7 +1,7 @@
 -- The least numbers of a cover in their residue classes.
 use Rattle.std.specs.Prelude.{◌≡◌, ℕ, ℤ, pos, ◌≤ℤ◌, slice_index_or, ◌+◌, ◌%◌, ◌<◌, List, length, slice_index}
 use Rattle.sg_defs.specs.Decomposition.{IsInCover}
-use Rattle.sg_apery.specs.Limits.{APERY_ENTRY_LIMIT}
+use Rattle.sg_classes.specs.declared.limits.TheConstants.{APERY_ENTRY_LIMIT}
 
 -- n less the multiplicity lies in the cover of h
 abbrev pub HasLesser : List ℕ → ℤ → ℕ → Type 0

@@ -3,10 +3,10 @@
 ghost use Rattle.std.specs.Prelude.{◌≡◌, ◌+◌, ◌-◌, ◌*◌, ◌%◌, ◌<◌, ◌≤◌, ℕ, pos, ◌≤ℤ◌, length, slice_index, IfOk, IsTrue, ◌↔◌};
 ghost use Rattle.sg_defs.specs.Decomposition.{IsInCover};
 ghost use Rattle.sg_defs.specs.Membership.{Generates};
-ghost use Rattle.sg_apery.specs.Fit.{IsSpan};
+ghost use Rattle.sg_lawful.specs.Spans.{IsShort};
 ghost use Rattle.sg_irred.specs.Cover.{HasLesser, IsLeastInCover, IsCoverList};
 
-use sg_apery::{APERY_ENTRY_LIMIT, MULTIPLICITY_LIMIT, SPAN_LIMIT, Table, TableFault};
+use sg_apery::{APERY_ENTRY_LIMIT, MULTIPLICITY_LIMIT, Table, TableFault};
 use sg_nat::Nats;
 use std::alloc::{AllocError, Global};
 
@@ -75,7 +75,7 @@ fn cover_list(alloc: Global, table: &Table, h: i64) -> Result<Vec<u64>, AllocErr
 pub fn cover(alloc: Global, table: &Table, h: i64) -> Result<Nats, AllocError>
     requires natural { pos 0 ≤ℤ h }
     requires high { h ≤ℤ pos APERY_ENTRY_LIMIT }
-    requires span { (s : ℕ) × IsSpan table.now s × (s ≤ SPAN_LIMIT) }
+    requires span { IsShort table.now }
     ensures { IfOk result (Generates (IsInCover table.now h)) }
 {
     let list = cover_list(alloc, table, h)?;

@@ -6,11 +6,11 @@ ghost use Rattle.sg_defs.specs.Decomposition.{IsInCover, IsInEachCover, IsChosen
 ghost use Rattle.sg_defs.specs.Listings.{ListsIntegers};
 ghost use Rattle.sg_defs.specs.Invariants.{IsSpecialGap};
 ghost use Rattle.sg_defs.specs.Membership.{Generates};
-ghost use Rattle.sg_apery.specs.Fit.{IsSpan};
+ghost use Rattle.sg_lawful.specs.Spans.{IsShort};
 ghost use Rattle.sg_irred.specs.Cover.{AreNatural};
 
 use crate::cover_of::{cover, is_in_cover};
-use sg_apery::{APERY_ENTRY_LIMIT, SPAN_LIMIT, Table};
+use sg_apery::{APERY_ENTRY_LIMIT, Table};
 use sg_nat::{Ints, Rows};
 use std::alloc::{AllocError, Global};
 
@@ -48,7 +48,7 @@ fn chosen_gaps(alloc: Global, table: &Table, special: &[i64]) -> Result<Ints, Al
 /// The minimal generators of the cover of each of the given gaps.
 fn covers(alloc: Global, table: &Table, chosen: &[i64]) -> Result<Rows, AllocError>
     requires natural { AreNatural chosen.now }
-    requires span { (s : ℕ) × IsSpan table.now s × (s ≤ SPAN_LIMIT) }
+    requires span { IsShort table.now }
     ensures { IfOk result (AllZip (λ h M. Generates (IsInCover table.now h) M) chosen.now) }
 {
     let mut rows = Rows::new(alloc);
@@ -64,7 +64,7 @@ fn covers(alloc: Global, table: &Table, chosen: &[i64]) -> Result<Rows, AllocErr
 /// (Rosales and Garcia-Sanchez).
 pub fn decompose(alloc: Global, table: &Table, special: &Ints) -> Result<Rows, AllocError>
     requires special { ListsIntegers (IsSpecialGap table.now) special.now }
-    requires span { (s : ℕ) × IsSpan table.now s × (s ≤ SPAN_LIMIT) }
+    requires span { IsShort table.now }
     ensures decomposition { IfOk result (IsDecomposition table.now) }
     ensures irredundant { IfOk result (IsIrredundant table.now) }
 {

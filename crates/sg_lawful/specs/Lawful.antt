@@ -2,7 +2,7 @@
 use Rattle.std.specs.Prelude.{ℕ, ℤ, ◌<◌, List, length}
 use Rattle.sg_defs.specs.Membership.{IsNumericalSemigroup, IsMinimal}
 use Rattle.sg_defs.specs.Ideals.{IsMinimalIdeal}
-use Rattle.sg_apery.specs.Fit.{IsFit}
+use Rattle.sg_classes.specs.Fit.{IsFit}
 use Rattle.sg_lawful.specs.Generators.{AreSmall}
 
 -- the minimal list of a numerical semigroup that is within the limits

@@ -1,1 +1,4 @@
 pub mod Minimal
+pub mod Lengths
+pub mod Readings
+pub mod Limits

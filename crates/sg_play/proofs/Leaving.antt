@@ -1,8 +1,8 @@
 -- Plays that were left before their end.
-use Rattle.std.proofs.Common.{◌≡◌, ℕ, ◌+◌, List, [], ◌∷◌, ◌++◌, Bool, Result, Ok, Err, Some, refl, sym, ap, subst, ◌∙◌, inl, inr, append_assoc}
-use Rattle.std.proofs.lemmas.List.{append-nil}
+use Rattle.std.proofs.Common.{◌≡◌, ℕ, ◌+◌, List, [], ◌∷◌, ◌++◌, take, drop, Bool, true, false, Result, Ok, Err, Some, refl, sym, ap, subst, ◌∙◌, inl, inr, append_assoc}
+use Rattle.std.proofs.lemmas.List.{append-nil, take-append-le}
 use Rattle.sg_cut.specs.Cut.{Cut}
-use Rattle.sg_cut.specs.Lines.{line_of}
+use Rattle.sg_cut.specs.Lines.{count_of_line_feeds, line_of}
 use Rattle.sg_cut.specs.declared.outcome.Piece.{Piece}
 use Rattle.sg_cut.specs.declared.outcome.Piece.TheVariants.{Statement}
 use Rattle.sg_cut.proofs.Outcomes.{same_outcome, statement-append, text-append, rest-append}
@@ -10,14 +10,16 @@ use Rattle.sg_tree.specs.Tree.{Code}
 use Rattle.sg_script.specs.Outcome.{a_tree, IsReadAs}
 use Rattle.sg_script.proofs.OutcomeLemmas.{one-outcome}
 use Rattle.sg_rows.specs.declared.fault.Fault.{Fault}
-use Rattle.sg_eval.specs.Process.{Process, gives, refuses, reads, asks, sets, writes, Runs, Breaks}
-use Rattle.sg_eval.specs.Vars.{Vars, value_at, with_value}
-use Rattle.sg_eval.specs.Statements.{Going, on, ended, whole as meaning}
-use Rattle.sg_eval.proofs.OneEnd.{answer_one, end_one}
-use Rattle.sg_play.specs.Record.{Mark, Played, Record, marked, out, done, refused, IsFrontOf}
-use Rattle.sg_play.specs.Play.{Turn, stops, goes, executed, Performs, Takes, PlaysFrom, last, next}
-use Rattle.sg_play.specs.Left.{IsFirstStatement, LeftFrom, before, inside, behind}
-use Rattle.sg_play.proofs.Plays.{same-rest}
+use Rattle.sg_meaning.specs.Process.{Process, gives, refuses, reads, asks, sets, writes, Runs, Breaks}
+use Rattle.sg_meaning.specs.Vars.{Vars, value_at, with_value}
+use Rattle.sg_meaning.specs.Statements.{Going, on, ended, whole as meaning}
+use Rattle.sg_meaning.proofs.OneEnd.{answer_one, end_one}
+use Rattle.sg_play.specs.FaultLines.{fault_line}
+use Rattle.sg_play.specs.Record.{Mark, Played, Record, Refusal, marked, out, err, done, refused, IsFrontOf}
+use Rattle.sg_play.specs.Play.{Turn, stops, goes, refused_at, executed, Performs, Takes, PlaysFrom, last, next}
+use Rattle.sg_play.specs.Left.{IsFirstStatement, GoesOn, LeftFrom, before, inside, telling, behind}
+use Rattle.sg_play.proofs.Turns.{goes-one}
+use Rattle.sg_play.proofs.Plays.{same-rest, same-turn, statement-more}
 
 -- the first text is a front of the second
 IsTextFront : List ℕ → List ℕ → Type 0
@@ -50,64 +52,87 @@ pub marked-append : (m : Mark) (a b : List ℕ) → marked m (a ++ b) ≡ marked
 marked-append m [] b = refl
 marked-append m (x ∷ a) b = ap (λ r. (m, x) ∷ r) (marked-append m a b)
 
--- a front of a text that stands before a record
-text-in-record : (t s : List ℕ) (w r : Record) → IsTextFront t s → w ≡ marked out s ++ r → IsFrontOf (marked out t) w
-unfolding IsTextFront
-text-in-record t s w r f e =
-    (marked out f.0 ++ r, e ∙ ap (λ x. marked out x ++ r) f.1 ∙ ap (λ x. x ++ r) (marked-append out t f.0) ∙ append_assoc (marked out t) (marked out f.0) r)
-
 -- what stands first comes to what its tree does
-first-performs : {bytes : List ℕ} {begin end : ℕ} {c : Code} (piece : Piece) (whole : Bool) (passed feeds : ℕ) (vars : Vars) (t : Turn) → IsFirstStatement bytes begin end c →
-    Cut bytes whole piece → Takes piece bytes passed feeds vars t → Performs (a_tree c) vars (passed + begin) (feeds + line_of bytes begin) t
-first-performs {bytes} {begin} {end} {c} piece whole passed feeds vars t f d h =
+first-performs : (keep : Bool) {bytes : List ℕ} {begin end : ℕ} {c : Code} (piece : Piece) (whole : Bool) (passed feeds : ℕ) (vars : Vars) (t : Turn) → IsFirstStatement bytes begin end c →
+    Cut bytes whole piece → Takes keep piece bytes passed feeds vars t → Performs keep (a_tree c) vars (passed + begin) (feeds + line_of bytes begin) t
+first-performs keep {bytes} {begin} {end} {c} piece whole passed feeds vars t f d h =
     let same = same_outcome bytes whole piece (Statement begin end) d f.stands in
-    let k = subst (λ x. Takes x bytes passed feeds vars t) same h in
-    subst (λ o. Performs o vars (passed + begin) (feeds + line_of bytes begin) t) (one-outcome k.1 f.reads) k.2
+    let k = subst (λ x. Takes keep x bytes passed feeds vars t) same h in
+    subst (λ o. Performs keep o vars (passed + begin) (feeds + line_of bytes begin) t) (one-outcome k.1 f.reads) k.2
 
--- what a play that ends at a statement has written is that statement's text
-stops-written : (r : Result Going Fault) (text : List ℕ) (vars : Vars) (place line : ℕ) (p : Played) → stops p ≡ executed r text vars place line → p.written ≡ marked out text ++ []
-stops-written (Ok on) text vars place line p s = absurd cc
-stops-written (Ok ended) text vars place line p s =
-    let q : p ≡ record { written = marked out text; ending = done; place = Some place } = cc in ap (λ x. x.written) q ∙ sym (append-nil (marked out text))
-stops-written (Err f) text vars place line p s =
-    let q : p ≡ record { written = marked out text; ending = refused f line; place = Some place } = cc in ap (λ x. x.written) q ∙ sym (append-nil (marked out text))
+-- what a turn has written begins with the statement's text
+abbrev Writes : Turn → List ℕ → Type 0
+Writes (stops p) text = IsFrontOf (marked out text) p.written
+Writes (goes r refusals vars) text = IsFrontOf (marked out text) r
 
-stops-no-goes : (p : Played) (text : List ℕ) (v : Vars) → stops p ≡ goes text v → ⊥
-stops-no-goes p text v e = cc
+-- nothing follows
+whole-front : (r : Record) → IsFrontOf r r
+whole-front r = ([], sym (append-nil r))
 
-goes-text : (r : Result Going Fault) (text text' : List ℕ) (vars vars' : Vars) (place line : ℕ) → goes text' vars' ≡ executed r text vars place line → text ≡ text'
-goes-text (Ok on) text text' vars vars' place line s = cc
-goes-text (Ok ended) text text' vars vars' place line s = absurd cc
-goes-text (Err f) text text' vars vars' place line s = absurd cc
+refused-writes : (keep : Bool) (e : Fault) (text : List ℕ) (vars : Vars) (place line : ℕ) → Writes (refused_at keep e text vars place line) text
+refused-writes false e text vars place line = whole-front (marked out text)
+refused-writes true e text vars place line = (marked err (fault_line e line), refl)
+
+executed-writes : (keep : Bool) (r : Result Going Fault) (text : List ℕ) (vars : Vars) (place line : ℕ) → Writes (executed keep r text vars place line) text
+executed-writes keep (Ok on) text vars place line = whole-front (marked out text)
+executed-writes keep (Ok ended) text vars place line = whole-front (marked out text)
+executed-writes keep (Err e) text vars place line = refused-writes keep e text vars place line
+
+-- a front of a front
+front-twice : (a b c : Record) → IsFrontOf a b → IsFrontOf b c → IsFrontOf a c
+front-twice a b c f g = (f.0 ++ g.0, g.1 ∙ ap (λ x. x ++ g.0) f.1 ∙ append_assoc a f.0 g.0)
+
+-- a front of a text, as it is written
+text-front : (t s : List ℕ) → IsTextFront t s → IsFrontOf (marked out t) (marked out s)
+unfolding IsTextFront
+text-front t s f = (marked out f.0, ap (marked out) f.1 ∙ marked-append out t f.0)
+
+-- what a statement that was left had written is a front of what its turn writes
+part-writes : (keep : Bool) (c : Code) (vars v : Vars) (place line : ℕ) (text : List ℕ) (t : Turn) → Breaks (meaning c) vars v text → Performs keep (a_tree c) vars place line t → Writes t text
+part-writes keep c vars v place line text t b k =
+    let front = text-front text k.2 (breaks-front (meaning c) vars v k.1 k.0 text k.2 b k.3) in
+    subst (λ t. Writes t text) (sym k.4) (longer (executed keep k.0 k.2 k.1 place line) front (executed-writes keep k.0 k.2 k.1 place line))
+  where
+    longer : (t : Turn) → IsFrontOf (marked out text) (marked out k.2) → Writes t k.2 → Writes t text
+    longer (stops p) f w = front-twice (marked out text) (marked out k.2) p.written f w
+    longer (goes r refusals vars') f w = front-twice (marked out text) (marked out k.2) r f w
+
+-- where the first statement is gone on with, a play goes on with it
+goes-on-with : (keep whole : Bool) (bytes : List ℕ) (passed feeds end : ℕ) (vars vars' : Vars) (r : Record) (g : GoesOn keep bytes passed feeds end vars vars' r) (piece : Piece) (t : Turn) →
+    Cut bytes whole piece → Takes keep piece bytes passed feeds vars t → (piece ≡ Statement g.begin end) × (t ≡ goes r g.refusals vars')
+goes-on-with keep whole bytes passed feeds end vars vars' r g piece t c h = (
+  same_outcome bytes whole piece (Statement g.begin end) c g.stands,
+  same-turn keep whole bytes passed feeds vars piece (Statement g.begin end) t (goes r g.refusals vars') c g.stands h g.takes,
+)
+
+-- a front of what stands before more
+front-before : (front r tail : Record) → IsFrontOf front r → IsFrontOf front (r ++ tail)
+front-before front r tail f = (f.0 ++ tail, ap (λ x. x ++ tail) f.1 ∙ append_assoc front f.0 tail)
 
 -- a play that was left has written a front of what the whole play writes
-pub left-front : {bytes : List ℕ} {vars : Vars} {text : List ℕ} {whole : Bool} {passed feeds : ℕ} {p : Played} → LeftFrom bytes vars text → PlaysFrom whole bytes passed feeds vars p →
-    IsFrontOf (marked out text) p.written
+pub left-front : {keep : Bool} {bytes : List ℕ} {passed feeds : ℕ} {vars : Vars} {r : Record} {whole : Bool} {p : Played} → LeftFrom keep bytes passed feeds vars r → PlaysFrom keep whole bytes passed feeds vars p →
+    IsFrontOf r p.written
 left-front {p = p} before d = (p.written, refl)
-left-front {bytes} {vars} {text} {whole} {passed} {feeds} {p} (inside begin end c v f b) (last piece d h) =
-    let k = first-performs piece whole passed feeds vars (stops p) f d h in
-    text-in-record text k.2 p.written [] (breaks-front (meaning c) vars v k.1 k.0 text k.2 b k.3) (stops-written k.0 k.2 k.1 (passed + begin) (feeds + line_of bytes begin) p k.4)
-left-front {bytes} {vars} {text} {whole} {passed} {feeds} (inside begin end c v f b) (next {p = tail} begin' end' shown vars' d h rest) =
-    let k = first-performs (Statement begin' end') whole passed feeds vars (goes shown vars') f d h in
-    text-in-record text k.2 (marked out shown ++ tail.written) tail.written (breaks-front (meaning c) vars v k.1 k.0 text k.2 b k.3)
-    (ap (λ x. marked out x ++ tail.written) (sym (goes-text k.0 k.2 shown k.1 vars' (passed + begin) (feeds + line_of bytes begin) k.4)))
-left-front {bytes} {vars} {whole = whole} {passed} {feeds} {p} (behind {more = more} begin end c v text f r left) (last piece d h) =
-    let k = first-performs piece whole passed feeds vars (stops p) f d h in
-    let same = end_one (meaning c) vars (Ok on) k.0 v k.1 text k.2 r k.3 in
-    absurd (stops-no-goes p text v (k.4 ∙ ap (λ e. executed e k.2 k.1 (passed + begin) (feeds + line_of bytes begin)) (sym same.0) ∙ ap (λ x. goes x k.1) (sym same.2) ∙ ap (λ x. goes text x) (sym same.1)))
-left-front {bytes} {vars} {whole = whole} {passed} {feeds} (behind {more = more} begin end c v text f r left) (next {p = tail} begin' end' shown vars' d h rest) =
-    let k = first-performs (Statement begin' end') whole passed feeds vars (goes shown vars') f d h in
-    let same = end_one (meaning c) vars (Ok on) k.0 v k.1 text k.2 r k.3 in
-    let piece = same_outcome bytes whole (Statement begin' end') (Statement begin end) d f.stands in
-    let turn : goes shown vars' ≡ goes text v =
-    k.4 ∙ ap (λ e. executed e k.2 k.1 (passed + begin) (feeds + line_of bytes begin)) (sym same.0) ∙ ap (λ x. goes x k.1) (sym same.2) ∙ ap (λ x. goes text x) (sym same.1) in
+left-front {keep} {bytes} {passed} {feeds} {vars} {whole = whole} {p} (inside begin end c v text f b) (last piece d h) =
+    part-writes keep c vars v (passed + begin) (feeds + line_of bytes begin) text (stops p) b (first-performs keep piece whole passed feeds vars (stops p) f d h)
+left-front {keep} {bytes} {passed} {feeds} {vars} {whole = whole} (inside begin end c v text f b) (next {p = tail} begin' end' r rs vars' d h rest) =
+    front-before (marked out text) r tail.written
+    (part-writes keep c vars v (passed + begin) (feeds + line_of bytes begin) text (goes r rs vars') b (first-performs keep (Statement begin' end') whole passed feeds vars (goes r rs vars') f d h))
+left-front {keep} {bytes} {passed} {feeds} {vars} {whole = whole} {p} (telling end v r g f) (last piece d h) =
+    let same = (goes-on-with keep whole bytes passed feeds end vars v r g piece (stops p) d h).1 in absurd cc
+left-front {keep} {bytes} {passed} {feeds} {vars} {whole = whole} (telling {front = front} end v r g f) (next {p = tail} begin' end' r' rs vars' d h rest) =
+    let same = goes-one (goes-on-with keep whole bytes passed feeds end vars v r g (Statement begin' end') (goes r' rs vars') d h).1 in
+    subst (λ x. IsFrontOf front (x ++ tail.written)) (sym same.0) (front-before front r tail.written f)
+left-front {keep} {bytes} {passed} {feeds} {vars} {whole = whole} {p} (behind end v r more g left) (last piece d h) =
+    let same = (goes-on-with keep whole bytes passed feeds end vars v r g piece (stops p) d h).1 in absurd cc
+left-front {keep} {bytes} {passed} {feeds} {vars} {whole = whole} (behind end v r more g left) (next {p = tail} begin' end' r' rs vars' d h rest) =
+    let both = goes-on-with keep whole bytes passed feeds end vars v r g (Statement begin' end') (goes r' rs vars') d h in
+    let same = goes-one both.1 in
+    let piece = both.0 in
     let stop : end' ≡ end = cc in
-    let known : vars' ≡ v = cc in
-    let printed : shown ≡ text = cc in
-    let front = left-front left (same-rest whole bytes passed feeds end end' v vars' tail stop known rest) in (
+    let front = left-front left (same-rest keep whole bytes passed feeds end end' v vars' tail stop same.2 rest) in (
       front.0,
-      ap (λ x. marked out x ++ tail.written) printed ∙ ap (λ x. marked out text ++ x) front.1
-          ∙ sym (append_assoc (marked out text) (marked out more) front.0) ∙ ap (λ x. x ++ front.0) (sym (marked-append out text more)),
+      ap (λ x. x ++ tail.written) same.0 ∙ ap (λ x. r ++ x) front.1 ∙ sym (append_assoc r more front.0),
     )
 
 -- more bytes behind the first statement leave it
@@ -117,9 +142,28 @@ first-longer {bytes} {begin} {end} {c} more f = record {
   reads = subst (λ s. IsReadAs s (a_tree c)) (sym (text-append bytes more begin end f.stands)) f.reads;
 }
 
+-- so it is gone on with over them
+pub goes-longer : {keep : Bool} {bytes : List ℕ} {passed feeds end : ℕ} {vars vars' : Vars} {r : Record} (more : List ℕ) → GoesOn keep bytes passed feeds end vars vars' r → GoesOn keep (bytes ++ more) passed feeds end vars vars' r
+goes-longer {keep} {bytes} {passed} {feeds} {end} {vars} {vars'} {r} more g = record {
+  begin = g.begin;
+  refusals = g.refusals;
+  stands = statement-append bytes more g.begin end g.stands;
+  takes = statement-more keep g.begin end bytes more passed feeds vars (goes r g.refusals vars') g.stands g.takes;
+}
+
+-- what follows the first statement, left over more bytes
+pub left-more : {keep : Bool} {begin end : ℕ} {bytes : List ℕ} {vars : Vars} {r : Record} (passed feeds : ℕ) (more : List ℕ) → Cut bytes false (Statement begin end) →
+    LeftFrom keep (drop end bytes ++ more) (passed + end) (feeds + count_of_line_feeds (take end bytes)) vars r →
+    LeftFrom keep (drop end (bytes ++ more)) (passed + end) (feeds + count_of_line_feeds (take end (bytes ++ more))) vars r
+left-more {keep} {begin} {end} {bytes} {vars} {r} passed feeds more c left =
+    let rest = rest-append bytes more begin end c in
+    let front = take-append-le end bytes more c.within in
+    subst (λ xs. LeftFrom keep xs (passed + end) (feeds + count_of_line_feeds (take end (bytes ++ more))) vars r) (sym rest)
+    (subst (λ xs. LeftFrom keep (drop end bytes ++ more) (passed + end) (feeds + count_of_line_feeds xs) vars r) (sym front) left)
+
 -- a play that was left was left so over more bytes
-pub left-longer : {bytes : List ℕ} {vars : Vars} {text : List ℕ} (more : List ℕ) → LeftFrom bytes vars text → LeftFrom (bytes ++ more) vars text
+pub left-longer : {keep : Bool} {bytes : List ℕ} {passed feeds : ℕ} {vars : Vars} {r : Record} (more : List ℕ) → LeftFrom keep bytes passed feeds vars r → LeftFrom keep (bytes ++ more) passed feeds vars r
 left-longer more before = before
-left-longer more (inside begin end c v f b) = inside begin end c v (first-longer more f) b
-left-longer {bytes} {vars} more (behind {more = later} begin end c v text f r left) =
-    behind begin end c v text (first-longer more f) r (subst (λ xs. LeftFrom xs v later) (sym (rest-append bytes more begin end f.stands)) (left-longer more left))
+left-longer more (inside begin end c v text f b) = inside begin end c v text (first-longer more f) b
+left-longer more (telling end v r g f) = telling end v r (goes-longer more g) f
+left-longer {passed = passed} {feeds} more (behind end v r later g left) = behind end v r later (goes-longer more g) (left-more {begin = g.begin} passed feeds more g.stands (left-longer more left))

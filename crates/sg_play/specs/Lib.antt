@@ -1,3 +1,4 @@
+pub mod FaultLines
 pub mod Record
 pub mod Play
 pub mod Left

@@ -15,9 +15,13 @@ Record = List (Mark × ℕ)
 abbrev pub marked : Mark → List ℕ → Record
 marked m bytes = map (λ b. (m, b)) bytes
 
--- the first record is a front of the second
-abbrev pub IsFrontOf : Record → Record → Type 0
-IsFrontOf front whole = (rest : Record) × (whole ≡ front ++ rest)
+-- the first list is a front of the second
+abbrev pub IsFrontOf : {A : Type 0} → List A → List A → Type 0
+IsFrontOf {A} front whole = (rest : List A) × (whole ≡ front ++ rest)
+
+-- a statement that is refused: its fault and its line
+abbrev pub Refusal : Type 0
+Refusal = Fault × ℕ
 
 -- how a play ends: at the end of the script or at `quit;`, at a statement that is refused, with its line, or where more
 -- of the script is wanted
@@ -26,13 +30,14 @@ pub data Ending : Type 0 where
   refused : Fault → ℕ → Ending
   waiting : Ending
 
--- what a play came to: what was written, how it ended, and how many bytes stand before the statement that ended it,
--- where one did
+-- what a play came to: what was written, which statements were refused and passed, how it ended, and how many bytes stand
+-- before the statement that ended it, where one did
 pub record Played : Type 0 where
   pub written : Record
+  pub refusals : List Refusal
   pub ending : Ending
   pub place : Option ℕ
 
--- the same, after this text was printed
-abbrev pub after_text : List ℕ → Played → Played
-after_text text p = record { written = marked out text ++ p.written; ending = p.ending; place = p.place }
+-- the same, after this was written and these statements were passed
+abbrev pub after : Record → List Refusal → Played → Played
+after r refusals p = record { written = r ++ p.written; refusals = refusals ++ p.refusals; ending = p.ending; place = p.place }

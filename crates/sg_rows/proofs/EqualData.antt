@@ -3,10 +3,10 @@ use Rattle.std.proofs.Common.{◌≡◌, ℕ, Bool, true, false, List, [], ◌�
 use Rattle.sg_value.specs.Plain.{Things, RelativeIdeal}
 use Rattle.std.proofs.lemmas.Bool.{true≢false, false≢true}
 use Rattle.sg_value.specs.Data.{int, truth, text, list, fail, semigroup, ideal, Items, none, item}
-use Rattle.sg_exist.specs.Decided.{Decided}
-use Rattle.sg_exist.proofs.Decisions.{decided-or, decided-same, decided-eq, decided-eq_z}
+use Rattle.sg_laws_invariants.specs.Decided.{Decided}
+use Rattle.sg_laws_invariants.proofs.Decisions.{decided-or, decided-same, decided-eq, decided-eq_z}
 use Rattle.sg_rows.specs.Order.{Plain}
-use Rattle.sg_rows.specs.Words.{IsEntry}
+use Rattle.sg_rows.specs.Entries.{IsEntry}
 
 same_list-decided : {A : Type 0} → ((x y : A) → Decided (x ≡ y)) → (xs ys : List A) → Decided (xs ≡ ys)
 same_list-decided decide [] [] = inl refl
@@ -41,54 +41,19 @@ truth-decided false false = inl refl
 mutual
   pub data-decided : (a b : Plain) → Decided (a ≡ b)
   data-decided (int x) (int y) = decided-same (x ≡ y) (int x ≡ int y) (λ e. ap int e) (λ e. cc) (decided-eq_z x y)
-  data-decided (int x) (truth b) = inr (λ e. cc)
-  data-decided (int x) (text b) = inr (λ e. cc)
-  data-decided (int x) (list b) = inr (λ e. cc)
-  data-decided (int x) fail = inr (λ e. cc)
-  data-decided (int x) (semigroup b) = inr (λ e. cc)
-  data-decided (int x) (ideal b) = inr (λ e. cc)
+  data-decided (int x) _ = inr (λ e. cc)
   data-decided (truth x) (truth y) = decided-same (x ≡ y) (truth x ≡ truth y) (λ e. ap truth e) (λ e. cc) (truth-decided x y)
-  data-decided (truth x) (int b) = inr (λ e. cc)
-  data-decided (truth x) (text b) = inr (λ e. cc)
-  data-decided (truth x) (list b) = inr (λ e. cc)
-  data-decided (truth x) fail = inr (λ e. cc)
-  data-decided (truth x) (semigroup b) = inr (λ e. cc)
-  data-decided (truth x) (ideal b) = inr (λ e. cc)
+  data-decided (truth x) _ = inr (λ e. cc)
   data-decided (text x) (text y) = decided-same (x ≡ y) (text x ≡ text y) (λ e. ap text e) (λ e. cc) (list-decided x y)
-  data-decided (text x) (int b) = inr (λ e. cc)
-  data-decided (text x) (truth b) = inr (λ e. cc)
-  data-decided (text x) (list b) = inr (λ e. cc)
-  data-decided (text x) fail = inr (λ e. cc)
-  data-decided (text x) (semigroup b) = inr (λ e. cc)
-  data-decided (text x) (ideal b) = inr (λ e. cc)
+  data-decided (text x) _ = inr (λ e. cc)
   data-decided (list x) (list y) = decided-same (x ≡ y) (list x ≡ list y) (λ e. ap list e) (λ e. cc) (items-decided x y)
-  data-decided (list x) (int b) = inr (λ e. cc)
-  data-decided (list x) (truth b) = inr (λ e. cc)
-  data-decided (list x) (text b) = inr (λ e. cc)
-  data-decided (list x) fail = inr (λ e. cc)
-  data-decided (list x) (semigroup b) = inr (λ e. cc)
-  data-decided (list x) (ideal b) = inr (λ e. cc)
+  data-decided (list x) _ = inr (λ e. cc)
   data-decided fail fail = inl refl
-  data-decided fail (int b) = inr (λ e. cc)
-  data-decided fail (truth b) = inr (λ e. cc)
-  data-decided fail (text b) = inr (λ e. cc)
-  data-decided fail (list b) = inr (λ e. cc)
-  data-decided fail (semigroup b) = inr (λ e. cc)
-  data-decided fail (ideal b) = inr (λ e. cc)
+  data-decided fail _ = inr (λ e. cc)
   data-decided (semigroup x) (semigroup y) = decided-same (x ≡ y) (semigroup x ≡ semigroup y) (λ e. ap semigroup e) (λ e. cc) (list-decided x y)
-  data-decided (semigroup x) (ideal b) = inr (λ e. cc)
-  data-decided (semigroup x) (int b) = inr (λ e. cc)
-  data-decided (semigroup x) (truth b) = inr (λ e. cc)
-  data-decided (semigroup x) (text b) = inr (λ e. cc)
-  data-decided (semigroup x) (list b) = inr (λ e. cc)
-  data-decided (semigroup x) fail = inr (λ e. cc)
-  data-decided (ideal x) (semigroup b) = inr (λ e. cc)
+  data-decided (semigroup x) _ = inr (λ e. cc)
   data-decided (ideal x) (ideal y) = decided-same (x ≡ y) (ideal x ≡ ideal y) (λ e. ap ideal e) (λ e. cc) (ideal-decided x y)
-  data-decided (ideal x) (int b) = inr (λ e. cc)
-  data-decided (ideal x) (truth b) = inr (λ e. cc)
-  data-decided (ideal x) (text b) = inr (λ e. cc)
-  data-decided (ideal x) (list b) = inr (λ e. cc)
-  data-decided (ideal x) fail = inr (λ e. cc)
+  data-decided (ideal x) _ = inr (λ e. cc)
 
   items-decided : (a b : Items Things) → Decided (a ≡ b)
   items-decided none none = inl refl

@@ -1,21 +1,14 @@
 -- Replies that are lists of numbers or of semigroups.
-use Rattle.std.proofs.Common.{◌≡◌, ◌<◌, ◌≤◌, ℕ, ℤ, pos, List, [], ◌∷◌, length, map, Result, Ok, Err, inl, inr, refl, ap, sym, ◌∙◌, subst, Vec, Bool, true, false, IsTrue, arith, rules}
-use Rattle.sg_value.specs.Known.{Known, named}
+use Rattle.std.proofs.Common.{◌≡◌, ◌<◌, ◌≤◌, ℕ, ℤ, pos, List, [], ◌∷◌, length, map, Ok, Err, inl, inr, refl, ap, sym, ◌∙◌, Bool, true, false, IsTrue, arith}
 use Rattle.std.proofs.lemmas.Bool.{cases_lt}
-use Rattle.std.specs.Global.{Global}
-use Rattle.sg_value.specs.Data.{Data, int, list, semigroup, item, items_of, data_map, items_map, weight_of, weight_of_all, depth_of, depth_of_all, EachThing, EachThingOfAll, Kind}
+use Rattle.sg_value.specs.Data.{Data, int, list, semigroup, item, items_of, data_map, items_map, weight_of, weight_of_all, depth_of, depth_of_all, EachThingOfAll, Kind}
 use Rattle.sg_value.specs.Places.{Entries}
-use Rattle.sg_value.specs.Plain.{contents, contents_of_all, thing_at, IsKnown, Things, Places}
-use Rattle.sg_value.specs.declared.value.Value.{Value}
+use Rattle.sg_value.specs.declared.limits.TheConstants.{WEIGHT_LIMIT}
+use Rattle.sg_value.specs.Plain.{contents, Things, Places}
 use Rattle.sg_value.specs.declared.value.Value.TheVariants as value
-use Rattle.sg_rows.specs.Order.{Plain, fits, Delivers, IsReply}
-use Rattle.sg_rows.specs.Kinds.{answers}
-use Rattle.sg_rows.specs.Listed.{integer_list, natural_list, semigroup_list}
-use Rattle.sg_rows.specs.Replies.{Replies}
-use Rattle.sg_rows.specs.declared.fault.Fault.{Fault}
+use Rattle.sg_rows.specs.Order.{Delivers}
+use Rattle.sg_rows.specs.Values.{integer_list, natural_list, semigroup_list}
 use Rattle.sg_rows.specs.declared.fault.Fault.TheVariants.{TooLarge}
-use Rattle.sg_rows.specs.declared.fault.CallFault.TheVariants.{Script}
-use Rattle.sg_rows.proofs.Replying.{delivered}
 
 module _ {A : Type 0} {H : Kind → Type 0} (f : A → Data H) (light : (a : A) → weight_of (f a) ≡ 1) (flat : (a : A) → depth_of (f a) ≡ 0) where
   pub weight-flat : (xs : List A) → weight_of_all (items_of (map f xs)) ≡ length xs
@@ -27,30 +20,30 @@ module _ {A : Type 0} {H : Kind → Type 0} (f : A → Data H) (light : (a : A) 
   depth-flat (x ∷ xs) = omega (arith, flat x, depth-flat xs)
 
   -- a list without lists is answered where it is light
-  pub delivers_flat : (xs : List A) → length xs < 4194304 → Delivers (list (items_of (map f xs))) (Ok (list (items_of (map f xs))))
+  pub delivers_flat : (xs : List A) → length xs < WEIGHT_LIMIT → Delivers (list (items_of (map f xs))) (Ok (list (items_of (map f xs))))
   delivers_flat xs few =
       inr ((λ n. n tt), inr ((λ deep. omega (arith, depth-flat xs)), inr ((λ heavy. omega (arith, weight-flat xs)), refl)))
 
-  pub delivers_heavy : (xs : List A) → 4194304 ≤ length xs → Delivers (list (items_of (map f xs))) (Err TooLarge)
+  pub delivers_heavy : (xs : List A) → WEIGHT_LIMIT ≤ length xs → Delivers (list (items_of (map f xs))) (Err TooLarge)
   delivers_heavy xs many =
       inr ((λ n. n tt), inr ((λ deep. omega (arith, depth-flat xs)), inl (omega (arith, weight-flat xs), refl)))
 
-pub delivers_integers : (zs : List ℤ) → length zs < 4194304 → Delivers {H = Things} (integer_list zs) (Ok (integer_list zs))
+pub delivers_integers : (zs : List ℤ) → length zs < WEIGHT_LIMIT → Delivers {H = Things} (integer_list zs) (Ok (integer_list zs))
 delivers_integers zs few = delivers_flat int (λ z. refl) (λ z. refl) zs few
 
-pub delivers_heavy_integers : (zs : List ℤ) → 4194304 ≤ length zs → Delivers {H = Things} (integer_list zs) (Err TooLarge)
+pub delivers_heavy_integers : (zs : List ℤ) → WEIGHT_LIMIT ≤ length zs → Delivers {H = Things} (integer_list zs) (Err TooLarge)
 delivers_heavy_integers zs many = delivers_heavy int (λ z. refl) (λ z. refl) zs many
 
-pub delivers_naturals : (ns : List ℕ) → length ns < 4194304 → Delivers {H = Things} (natural_list ns) (Ok (natural_list ns))
+pub delivers_naturals : (ns : List ℕ) → length ns < WEIGHT_LIMIT → Delivers {H = Things} (natural_list ns) (Ok (natural_list ns))
 delivers_naturals ns few = delivers_flat (λ n. int (pos n)) (λ n. refl) (λ n. refl) ns few
 
-pub delivers_heavy_naturals : (ns : List ℕ) → 4194304 ≤ length ns → Delivers {H = Things} (natural_list ns) (Err TooLarge)
+pub delivers_heavy_naturals : (ns : List ℕ) → WEIGHT_LIMIT ≤ length ns → Delivers {H = Things} (natural_list ns) (Err TooLarge)
 delivers_heavy_naturals ns many = delivers_heavy (λ n. int (pos n)) (λ n. refl) (λ n. refl) ns many
 
-pub delivers_semigroups : (L : List (List ℕ)) → length L < 4194304 → Delivers {H = Things} (semigroup_list L) (Ok (semigroup_list L))
+pub delivers_semigroups : (L : List (List ℕ)) → length L < WEIGHT_LIMIT → Delivers {H = Things} (semigroup_list L) (Ok (semigroup_list L))
 delivers_semigroups L few = delivers_flat semigroup (λ h. refl) (λ h. refl) L few
 
-pub delivers_heavy_semigroups : (L : List (List ℕ)) → 4194304 ≤ length L → Delivers {H = Things} (semigroup_list L) (Err TooLarge)
+pub delivers_heavy_semigroups : (L : List (List ℕ)) → WEIGHT_LIMIT ≤ length L → Delivers {H = Things} (semigroup_list L) (Err TooLarge)
 delivers_heavy_semigroups L many = delivers_heavy semigroup (λ h. refl) (λ h. refl) L many
 
 -- what is plain has the same integers
@@ -68,43 +61,17 @@ naturals_kept f (n ∷ ns) = ap (item (int (pos n))) (naturals_kept f ns)
 pub plain_naturals : {H K : Kind → Type 0} (f : (k : Kind) → H k → K k) (ns : List ℕ) → data_map f (natural_list ns) ≡ natural_list ns
 plain_naturals f ns = ap list (naturals_kept f ns)
 
-integers_known : (P : (k : Kind) → Places k → Type 0) (zs : List ℤ) → EachThingOfAll P (items_of (map int zs))
+pub integers_known : (P : (k : Kind) → Places k → Type 0) (zs : List ℤ) → EachThingOfAll P (items_of (map int zs))
 integers_known P [] = tt
 integers_known P (z ∷ zs) = (tt, integers_known P zs)
 
-naturals_known : (P : (k : Kind) → Places k → Type 0) (ns : List ℕ) → EachThingOfAll P (items_of (map (λ n. int (pos n)) ns))
+pub naturals_known : (P : (k : Kind) → Places k → Type 0) (ns : List ℕ) → EachThingOfAll P (items_of (map (λ n. int (pos n)) ns))
 naturals_known P [] = tt
 naturals_known P (n ∷ ns) = (tt, naturals_known P ns)
-
--- the one value of a row, where it was found
-exact : (x : Plain) (r : Result Plain Fault) → Delivers x r → IsReply (fits (answers (λ d. d ≡ x))) r
-exact x r h = delivered (answers (λ d. d ≡ x)) x r (record { size = λ n. n; bad = λ n. n; limit = λ n. n; many = λ n. n; budget = λ n. n }) refl h
-
--- a list of integers as the reply
-pub replies_integers : (store : Known) (zs : List ℤ) (v : Value) → contents v ≡ integer_list zs → length zs < 4194304 → Replies (Ok v) store (fits (answers (λ d. d ≡ integer_list zs)))
-replies_integers store zs v is few = (
-  subst (λ d. IsReply (fits (answers (λ e. e ≡ integer_list zs))) (Ok d)) (sym (ap (data_map (thing_at (named store))) is ∙ plain_integers (thing_at (named store)) zs))
-      (exact (integer_list zs) (Ok (integer_list zs)) (delivers_integers zs few)),
-  subst (EachThing (IsKnown (named store))) (sym is) (integers_known (IsKnown (named store)) zs),
-)
-
-pub replies_heavy_integers : (store : Known) (zs : List ℤ) → 4194304 ≤ length zs → Replies (Err (Script TooLarge)) store (fits (answers (λ d. d ≡ integer_list zs)))
-replies_heavy_integers store zs many = exact (integer_list zs) (Err TooLarge) (delivers_heavy_integers zs many)
-
--- a list of naturals as the reply
-pub replies_naturals : (store : Known) (ns : List ℕ) (v : Value) → contents v ≡ natural_list ns → length ns < 4194304 → Replies (Ok v) store (fits (answers (λ d. d ≡ natural_list ns)))
-replies_naturals store ns v is few = (
-  subst (λ d. IsReply (fits (answers (λ e. e ≡ natural_list ns))) (Ok d)) (sym (ap (data_map (thing_at (named store))) is ∙ plain_naturals (thing_at (named store)) ns))
-      (exact (natural_list ns) (Ok (natural_list ns)) (delivers_naturals ns few)),
-  subst (EachThing (IsKnown (named store))) (sym is) (naturals_known (IsKnown (named store)) ns),
-)
-
-pub replies_heavy_naturals : (store : Known) (ns : List ℕ) → 4194304 ≤ length ns → Replies (Err (Script TooLarge)) store (fits (answers (λ d. d ≡ natural_list ns)))
-replies_heavy_naturals store ns many = exact (natural_list ns) (Err TooLarge) (delivers_heavy_naturals ns many)
 
 pub contents-List : (ds : Entries) → contents (value.List ds) ≡ list ds
 contents-List ds = refl
 
 -- what is not heavy is light
-pub light : (n : ℕ) (b : Bool) → b ≡ false → (4194304 ≤ n → IsTrue b) → n < 4194304
-light n b off heavy = elim (cases_lt n 4194304) [ inl less ↦ less | inr more ↦ absurd (let e : true ≡ false = sym (heavy more) ∙ off in cc) ]
+pub light : (n : ℕ) (b : Bool) → b ≡ false → (WEIGHT_LIMIT ≤ n → IsTrue b) → n < WEIGHT_LIMIT
+light n b off heavy = elim (cases_lt n WEIGHT_LIMIT) [ inl less ↦ less | inr more ↦ absurd (let e : true ≡ false = sym (heavy more) ∙ off in cc) ]

@@ -3,8 +3,9 @@ use Rattle.std.proofs.Common.{◌≡◌, ◌↔◌, ℕ, ℤ, Bool, true, false,
 use Rattle.sg_value.specs.Data.{Data, int, truth, semigroup, Kind}
 use Rattle.sg_defs.specs.Membership.{Generates}
 use Rattle.sg_apery.proofs.OneListLemmas.{one-minimal_list}
-use Rattle.sg_rows.specs.Order.{Plain, Case, unfit, fits, Checks, passed, check, FirstOf, value_checks, named_checks, Delivers, IsReply}
-use Rattle.sg_rows.specs.Kinds.{given, an_integer, whether}
+use Rattle.sg_rows.specs.Order.{Plain, Case, unfit, fits, Checks, passed, check, FirstOf, value_checks, named_checks, Delivers, IsReply, Row}
+use Rattle.sg_rows.specs.Kinds.{given, fitted}
+use Rattle.sg_rows.specs.Values.{an_integer, whether}
 use Rattle.sg_rows.specs.declared.fault.Fault.{Fault}
 
 abbrev pub One : {A : Type 0} → (A → Type 0) → Type 0
@@ -33,6 +34,10 @@ reply_one (fits it) one r s p q =
 pub given_one : {A : Type 0} (o : Option A) (f : A → Case) → ((a : A) → OneValue (f a)) → OneValue (given o f)
 given_one None f h = tt
 given_one (Some a) f h = h a
+
+pub fitted_one : {A : Type 0} (o : Option A) (row : A → Row) → ((a : A) → One (row a).value) → OneValue (fitted o row)
+fitted_one None row h = tt
+fitted_one (Some a) row h = h a
 
 pub is_one : (x : Plain) → One (λ d. d ≡ x)
 is_one x d e p q = p ∙ sym q

@@ -1,18 +1,17 @@
 -- Replies of rows.
-use Rattle.std.proofs.Common.{◌≡◌, ◌↔◌, ℤ, Bool, true, false, not, IsTrue, Result, Ok, Err, inl, inr, refl, ap, sym, subst, arith, rules}
+use Rattle.std.proofs.Common.{◌≡◌, ◌↔◌, ℤ, Bool, true, false, not, IsTrue, Result, Ok, Err, inl, inr, refl, ap, sym, subst, arith}
 use Rattle.sg_value.specs.Known.{Known, named}
 use Rattle.std.specs.Prelude.{FitsSigned}
 use Rattle.std.specs.Int.{w64}
-use Rattle.sg_value.specs.Data.{Data, int, truth, text, list, fail, semigroup, ideal, data_map, items_map, EachThing, Kind, semigroups, ideals}
+use Rattle.sg_value.specs.Data.{int, truth, data_map, EachThing}
 use Rattle.sg_value.specs.Plain.{contents, plain, thing_at, IsKnown, Things}
 use Rattle.sg_value.specs.declared.value.Value.{Value}
 use Rattle.sg_value.specs.declared.value.Value.TheVariants as value
-use Rattle.sg_rows.specs.Order.{Plain, Reply, Row, fits, Checks, passed, check, FirstOf, Delivers, IsReply}
-use Rattle.sg_rows.specs.Kinds.{as_integer, as_list, as_semigroup, as_ideal, answers, whether}
-use Rattle.std.specs.Option.{option_map}
+use Rattle.sg_rows.specs.Order.{Plain, Reply, Row, fits, Checks, passed, check, FirstOf, Delivers, IsReply, Passes}
+use Rattle.sg_rows.specs.Values.{answers, whether}
 use Rattle.sg_rows.specs.Replies.{Replies}
 use Rattle.sg_rows.specs.declared.fault.Fault.{Fault}
-use Rattle.sg_rows.specs.declared.fault.Fault.TheVariants.{Overflow, BadArgument, TooLarge, TooMany, Budget}
+use Rattle.sg_rows.specs.declared.fault.Fault.TheVariants.{BadArgument, TooLarge, TooMany, Budget}
 use Rattle.sg_rows.specs.declared.fault.CallFault.{CallFault}
 use Rattle.sg_rows.specs.declared.fault.CallFault.TheVariants.{Script, Memory}
 
@@ -24,14 +23,6 @@ contents-Bool b = refl
 
 no : ⊥ → ⊥
 no h = h
-
--- a row that refuses nothing
-pub record Passes (row : Row) : Type 0 where
-  pub size : ¬ row.size
-  pub bad : ¬ row.bad
-  pub limit : ¬ row.limit
-  pub many : ¬ row.many
-  pub budget : ¬ row.budget
 
 pub delivered : (row : Row) (d : Plain) (r : Reply) → Passes row → row.value d → Delivers d r → IsReply (fits row) r
 delivered row d r p h g = inr (p.size, inr (p.bad, inr (p.limit, inr (p.many, inr (p.budget, (d, h, g))))))
@@ -60,57 +51,12 @@ replies_integer store row z v is fit p h = (
   subst (λ d. EachThing (IsKnown (named store)) d) (sym is) tt,
 )
 
--- an integer outside of 64 bits
-pub replies_overflow : (store : Known) (row : Row) (z : ℤ) → (¬ FitsSigned w64 z) → Passes row → row.value (int z) → Replies (Err (Script Overflow)) store (fits row)
-replies_overflow store row z out p h = delivered row (int z) (Err Overflow) p h (inl (out, refl))
-
 -- a truth value as the reply
 pub replies_truth : (store : Known) (b : Bool) (v : Value) (P : Type 0) → contents v ≡ truth b → (IsTrue b ↔ P) → Replies (Ok v) store (fits (answers (whether P)))
 replies_truth store b v P is h = (
   subst (λ d. IsReply (fits (answers (whether P))) (Ok d)) (sym (plain_truth store v b is)) (delivered (answers (whether P)) (truth b) (Ok (truth b)) (answers_pass (whether P)) (b, refl, h) (delivers_truth b)),
   subst (λ d. EachThing (IsKnown (named store)) d) (sym is) tt,
 )
-
--- a condition of the row that holds first
-pub replies_bad : (store : Known) (row : Row) → (¬ row.size) → row.bad → Replies (Err (Script BadArgument)) store (fits row)
-replies_bad store row small bad = inr (small, inl (bad, refl))
-
--- what is plain is of the same kind
-pub as_integer-plain : {H K : Kind → Type 0} (f : (k : Kind) → H k → K k) (d : Data H) → as_integer (data_map f d) ≡ as_integer d
-as_integer-plain f (int z) = refl
-as_integer-plain f (truth b) = refl
-as_integer-plain f (text bs) = refl
-as_integer-plain f (list ds) = refl
-as_integer-plain f fail = refl
-as_integer-plain f (semigroup h) = refl
-as_integer-plain f (ideal h) = refl
-
-pub as_list-plain : {H K : Kind → Type 0} (f : (k : Kind) → H k → K k) (d : Data H) → as_list (data_map f d) ≡ option_map (items_map f) (as_list d)
-as_list-plain f (int z) = refl
-as_list-plain f (truth b) = refl
-as_list-plain f (text bs) = refl
-as_list-plain f (list ds) = refl
-as_list-plain f fail = refl
-as_list-plain f (semigroup h) = refl
-as_list-plain f (ideal h) = refl
-
-pub as_semigroup-plain : {H K : Kind → Type 0} (f : (k : Kind) → H k → K k) (d : Data H) → as_semigroup (data_map f d) ≡ option_map (f semigroups) (as_semigroup d)
-as_semigroup-plain f (int z) = refl
-as_semigroup-plain f (truth b) = refl
-as_semigroup-plain f (text bs) = refl
-as_semigroup-plain f (list ds) = refl
-as_semigroup-plain f fail = refl
-as_semigroup-plain f (semigroup h) = refl
-as_semigroup-plain f (ideal h) = refl
-
-pub as_ideal-plain : {H K : Kind → Type 0} (f : (k : Kind) → H k → K k) (d : Data H) → as_ideal (data_map f d) ≡ option_map (f ideals) (as_ideal d)
-as_ideal-plain f (int z) = refl
-as_ideal-plain f (truth b) = refl
-as_ideal-plain f (text bs) = refl
-as_ideal-plain f (list ds) = refl
-as_ideal-plain f fail = refl
-as_ideal-plain f (semigroup h) = refl
-as_ideal-plain f (ideal h) = refl
 
 -- a test turned round
 pub decides_not : (b : Bool) (P : Type 0) → (IsTrue b ↔ P) → IsTrue (not b) ↔ (P → ⊥)
@@ -136,14 +82,3 @@ pub replies_in : (store : Known) (r : Result Value CallFault) (x : Plain) (row :
 replies_in store (Ok v) x row p h reply = (reply_in x row (Ok (plain (named store) v)) p h reply.0, reply.1)
 replies_in store (Err (Script e)) x row p h reply = reply_in x row (Err e) p h reply
 replies_in store (Err (Memory e)) x row p h reply = tt
-
--- a limit of the row is passed
-pub replies_limit : (store : Known) (row : Row) → (¬ row.size) → (¬ row.bad) → row.limit → Replies (Err (Script TooLarge)) store (fits row)
-replies_limit store row small good wide = inr (small, inr (good, inl (wide, refl)))
-
--- a truth value of a row that may refuse something
-pub replies_truth_in : (store : Known) (row : Row) (b : Bool) (v : Value) → contents v ≡ truth b → Passes row → row.value (truth b) → Replies (Ok v) store (fits row)
-replies_truth_in store row b v is p h = (
-  subst (λ d. IsReply (fits row) (Ok d)) (sym (plain_truth store v b is)) (delivered row (truth b) (Ok (truth b)) p h (delivers_truth b)),
-  subst (λ d. EachThing (IsKnown (named store)) d) (sym is) tt,
-)

@@ -1,18 +1,19 @@
 -- Where the conditions of a row are decided in turn, and a value is there where none of them holds, there is a reply.
 use Rattle.std.proofs.Common.{◌≡◌, ℕ, ℤ, ◌<◌, ◌^◌, List, [], ◌∷◌, Option, Some, None, Ok, Err, inl, inr, refl}
-use Rattle.sg_value.specs.Plain.{Things}
 use Rattle.std.specs.Prelude.{pos, IfSome, FitsSigned, ⊤}
 use Rattle.std.specs.Int.{w64}
 use lib.Signed.{mag}
 use Rattle.sg_defs.specs.Membership.{Generates}
 use Rattle.sg_apery.specs.Fit.{IsFit}
-use Rattle.sg_exist.specs.Decided.{Decided}
-use Rattle.sg_exist.proofs.Decisions.{decided-not, decided-lt, decided-same, truth-exists}
-use Rattle.sg_exist.proofs.SemigroupDecisions.{fit_list-or_none, unfit-decided}
-use Rattle.sg_value.specs.Data.{int, truth, text, list, fail, semigroup, ideal, Items, none, item, weight_of, depth_of}
-use Rattle.sg_rows.specs.Order.{Plain, Reply, Case, unfit, fits, Checks, passed, check, FirstOf, InBits, named_checks, value_checks, Delivers, IsReply}
-use Rattle.sg_rows.specs.Kinds.{given, sole, as_list, as_semigroup, as_ideal, answers, an_integer, a_natural, an_entry, whether, generates}
-use Rattle.sg_rows.specs.Lawful.{IsLawfulList, IsLawfulIdeal, IsLawful, AreLawful, SomeReply}
+use Rattle.sg_laws_invariants.specs.Decided.{Decided}
+use Rattle.sg_laws_invariants.proofs.Decisions.{decided-not, decided-lt, decided-same, truth-exists}
+use Rattle.sg_laws_invariants.proofs.SemigroupDecisions.{fit_list-or_none, unfit-decided}
+use Rattle.sg_value.specs.Data.{int, truth, semigroup, weight_of, depth_of}
+use Rattle.sg_value.specs.declared.limits.TheConstants.{NESTING_LIMIT, WEIGHT_LIMIT}
+use Rattle.sg_rows.specs.Order.{Plain, Reply, Case, unfit, fits, Checks, passed, check, FirstOf, InBits, named_checks, value_checks, Delivers, IsReply, Row}
+use Rattle.sg_rows.specs.Kinds.{given, fitted}
+use Rattle.sg_rows.specs.Values.{answers, an_integer, a_natural, an_entry, whether, generates}
+use Rattle.sg_rows.specs.Lawful.{IsLawful, SomeReply}
 use Rattle.sg_rows.specs.declared.fault.Fault.TheVariants.{WrongType}
 
 -- each condition is decided once those before it do not hold, and where none holds the rest is there
@@ -33,16 +34,11 @@ first_some (check c e more) rest h = elim h.0 [
 
 bits-decided : (d : Plain) → Decided (InBits d)
 bits-decided (int z) = decided-same (mag z < 2 ^ 63) (FitsSigned w64 z) (λ h. record { sfits = h }) (λ f. f.sfits) (decided-lt (mag z) (2 ^ 63))
-bits-decided (truth b) = inl tt
-bits-decided (text bs) = inl tt
-bits-decided (list ds) = inl tt
-bits-decided fail = inl tt
-bits-decided (semigroup h) = inl tt
-bits-decided (ideal h) = inl tt
+bits-decided _ = inl tt
 
 pub delivers_some : (d : Plain) → IsLawful d → SomeReply (Delivers d)
 delivers_some d lawful = first_some (value_checks d) (λ s. s ≡ Ok d)
-    (decided-not (InBits d) (bits-decided d), λ a. (decided-lt 64 (depth_of d), λ b. (decided-lt 4194304 (weight_of d), λ c. (Ok d, refl, lawful))))
+    (decided-not (InBits d) (bits-decided d), λ a. (decided-lt NESTING_LIMIT (depth_of d), λ b. (decided-lt WEIGHT_LIMIT (weight_of d), λ c. (Ok d, refl, lawful))))
 
 -- there is a lawful value with P
 abbrev pub HasLawful : (Plain → Type 0) → Type 0
@@ -63,6 +59,10 @@ reply_some (fits it) h =
 pub given_some : {A : Type 0} (L : A → Type 0) (o : Option A) (f : A → Case) → IfSome o L → ((a : A) → L a → SomeValue (f a)) → SomeValue (given o f)
 given_some L None f l h = tt
 given_some L (Some a) f l h = h a l
+
+pub fitted_some : {A : Type 0} (L : A → Type 0) (o : Option A) (row : A → Row) → IfSome o L → ((a : A) → L a → SomeValue (fits (row a))) → SomeValue (fitted o row)
+fitted_some L None row l h = tt
+fitted_some L (Some a) row l h = h a l
 
 no : ⊥ → ⊥
 no h = h
@@ -102,44 +102,6 @@ generates_some size bad P size_decided bad_decided made =
     (size_decided, λ a. (bad_decided a, λ b. (unfit-decided P (made a b), λ c. (inr no, λ d. (inr no, λ e. generated_some P (made a b) c)))))
 
 -- an entry of a list of integers, which has one
-pub entry_some : (P : List ℤ → ℤ → Type 0) → ((z : ℤ) (zs : List ℤ) → (x : ℤ) × P (z ∷ zs) x) → (zs : List ℤ) → SomeValue (an_entry (P zs) zs)
+pub entry_some : (P : List ℤ → ℤ → Type 0) → ((z : ℤ) (zs : List ℤ) → (x : ℤ) × P (z ∷ zs) x) → (zs : List ℤ) → SomeValue (fits (an_entry (P zs) zs))
 entry_some P h [] = bad_some ([] ≡ []) (an_integer (P [])) (inl refl) (λ some. absurd (some refl))
 entry_some P h (z ∷ zs) = bad_some ((z ∷ zs) ≡ []) (an_integer (P (z ∷ zs))) (inr (λ e. cc)) (λ some. integer_some (P (z ∷ zs)) (h z zs))
-
--- arguments by their kinds
-
-pub any_some : {A : Type 0} (o : Option A) → IfSome o (λ a. ⊤)
-any_some None = tt
-any_some (Some a) = tt
-
-pub sole_lawful : (args : Items Things) → AreLawful args → IfSome (sole args) IsLawful
-sole_lawful none h = tt
-sole_lawful (item d none) h = h.0
-sole_lawful (item d (item e es)) h = tt
-
-pub as_semigroup_lawful : (d : Plain) → IsLawful d → IfSome (as_semigroup d) IsLawfulList
-as_semigroup_lawful (semigroup G) h = h
-as_semigroup_lawful (ideal G) h = tt
-as_semigroup_lawful (int z) h = tt
-as_semigroup_lawful (truth b) h = tt
-as_semigroup_lawful (text bs) h = tt
-as_semigroup_lawful (list ds) h = tt
-as_semigroup_lawful fail h = tt
-
-pub as_ideal_lawful : (d : Plain) → IsLawful d → IfSome (as_ideal d) IsLawfulIdeal
-as_ideal_lawful (ideal I) h = h
-as_ideal_lawful (semigroup G) h = tt
-as_ideal_lawful (int z) h = tt
-as_ideal_lawful (truth b) h = tt
-as_ideal_lawful (text bs) h = tt
-as_ideal_lawful (list ds) h = tt
-as_ideal_lawful fail h = tt
-
-pub as_list_lawful : (d : Plain) → IsLawful d → IfSome (as_list d) AreLawful
-as_list_lawful (list ds) h = h
-as_list_lawful (int z) h = tt
-as_list_lawful (truth b) h = tt
-as_list_lawful (text bs) h = tt
-as_list_lawful fail h = tt
-as_list_lawful (semigroup G) h = tt
-as_list_lawful (ideal G) h = tt

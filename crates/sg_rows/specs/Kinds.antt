@@ -1,19 +1,26 @@
--- Rows by the kinds of their arguments, and by the kinds of their values.
-use Rattle.std.specs.Prelude.{◌≡◌, ◌↔◌, ℕ, ℤ, pos, Bool, IsTrue, List, [], ◌∷◌, Option, Some, None}
+-- Arguments by their kinds.
+use Rattle.std.specs.Prelude.{ℤ, List, [], ◌∷◌, Option, Some, None, unwrap_or}
 use Rattle.std.specs.Option.{option_map}
-use Rattle.sg_defs.specs.Membership.{Generates}
-use Rattle.sg_apery.specs.Fit.{IsFit}
-use Rattle.sg_value.specs.Data.{semigroups, ideals, Data, int, truth, text, list, fail, semigroup, ideal, Items, none, item, Kind}
-use Rattle.sg_rows.specs.Order.{Plain, Row, Case, unfit, fits}
+use Rattle.sg_value.specs.Data.{semigroups, ideals, Data, int, list, semigroup, ideal, Items, none, item, Kind}
+use Rattle.sg_rows.specs.Order.{Row, Case, unfit, fits}
+
+-- ---- one argument
 
 abbrev pub as_integer : {H : Kind → Type 0} → Data H → Option ℤ
 as_integer (int z) = Some z
-as_integer (truth b) = None
-as_integer (text bs) = None
-as_integer (list ds) = None
-as_integer fail = None
-as_integer (semigroup h) = None
-as_integer (ideal h) = None
+as_integer _ = None
+
+abbrev pub as_list : {H : Kind → Type 0} → Data H → Option (Items H)
+as_list (list ds) = Some ds
+as_list _ = None
+
+abbrev pub as_semigroup : {H : Kind → Type 0} → Data H → Option (H semigroups)
+as_semigroup (semigroup h) = Some h
+as_semigroup _ = None
+
+abbrev pub as_ideal : {H : Kind → Type 0} → Data H → Option (H ideals)
+as_ideal (ideal h) = Some h
+as_ideal _ = None
 
 -- a number in front, where there are both
 abbrev pub prepended : Option ℤ → Option (List ℤ) → Option (List ℤ)
@@ -25,88 +32,75 @@ abbrev pub integers : {H : Kind → Type 0} → Items H → Option (List ℤ)
 integers none = Some []
 integers (item d ds) = prepended (as_integer d) (integers ds)
 
+-- a list of integers
+abbrev pub as_integers : {H : Kind → Type 0} → Data H → Option (List ℤ)
+as_integers (list ds) = integers ds
+as_integers _ = None
+
+-- ---- two
+
+-- both, where there are both
+abbrev pub both : {A B : Type 0} → Option A → Option B → Option (A × B)
+both (Some a) (Some b) = Some (a, b)
+both _ _ = None
+
+abbrev pub two_integers : {H : Kind → Type 0} → Data H → Data H → Option (ℤ × ℤ)
+two_integers a b = both (as_integer a) (as_integer b)
+
+abbrev pub two_semigroups : {H : Kind → Type 0} → Data H → Data H → Option (H semigroups × H semigroups)
+two_semigroups a b = both (as_semigroup a) (as_semigroup b)
+
+abbrev pub two_ideals : {H : Kind → Type 0} → Data H → Data H → Option (H ideals × H ideals)
+two_ideals a b = both (as_ideal a) (as_ideal b)
+
+-- a semigroup and an integer, in either order
+abbrev pub semigroup_and_integer : {H : Kind → Type 0} → Data H → Data H → Option (H semigroups × ℤ)
+semigroup_and_integer (semigroup h) (int z) = Some (h, z)
+semigroup_and_integer (int z) (semigroup h) = Some (h, z)
+semigroup_and_integer _ _ = None
+
+-- an integer and then a semigroup or an ideal, a list of integers and then a semigroup
+abbrev pub integer_then_semigroup : {H : Kind → Type 0} → Data H → Data H → Option (ℤ × H semigroups)
+integer_then_semigroup a b = both (as_integer a) (as_semigroup b)
+
+abbrev pub integer_then_ideal : {H : Kind → Type 0} → Data H → Data H → Option (ℤ × H ideals)
+integer_then_ideal a b = both (as_integer a) (as_ideal b)
+
+abbrev pub list_then_semigroup : {H : Kind → Type 0} → Data H → Data H → Option (List ℤ × H semigroups)
+list_then_semigroup a b = both (as_integers a) (as_semigroup b)
+
+-- ---- three
+
+abbrev pub three_integers : {H : Kind → Type 0} → Data H → Data H → Data H → Option (ℤ × (ℤ × ℤ))
+three_integers a b c = both (as_integer a) (two_integers b c)
+
+-- ---- all arguments of a call
+
+-- what is taken of the one argument, of two, and of three
+abbrev pub one : {H : Kind → Type 0} {A : Type 0} → (Data H → Option A) → Items H → Option A
+one take (item a none) = take a
+one take _ = None
+
+abbrev pub two : {H : Kind → Type 0} {A : Type 0} → (Data H → Data H → Option A) → Items H → Option A
+two take (item a (item b none)) = take a b
+two take _ = None
+
+abbrev pub three : {H : Kind → Type 0} {A : Type 0} → (Data H → Data H → Data H → Option A) → Items H → Option A
+three take (item a (item b (item c none))) = take a b c
+three take _ = None
+
+-- the one list of integers that is given, or the arguments where they are integers
+abbrev pub list_or_integers : {H : Kind → Type 0} → Items H → Option (List ℤ)
+list_or_integers ds = integers (unwrap_or (one as_list ds) ds)
+
+-- ---- what is said of arguments
+
 -- where there is something of the kind that is wanted
 abbrev pub given : {A : Type 0} → Option A → (A → Case) → Case
 given None f = unfit
 given (Some a) f = f a
 
--- the one argument
-abbrev pub sole : {H : Kind → Type 0} → Items H → Option (Data H)
-sole none = None
-sole (item d none) = Some d
-sole (item d (item e ds)) = None
-
-abbrev pub as_list : {H : Kind → Type 0} → Data H → Option (Items H)
-as_list (list ds) = Some ds
-as_list (int z) = None
-as_list (truth b) = None
-as_list (text bs) = None
-as_list fail = None
-as_list (semigroup h) = None
-as_list (ideal h) = None
-
-abbrev pub as_semigroup : {H : Kind → Type 0} → Data H → Option (H semigroups)
-as_semigroup (semigroup h) = Some h
-as_semigroup (ideal h) = None
-as_semigroup (int z) = None
-as_semigroup (truth b) = None
-as_semigroup (text bs) = None
-as_semigroup (list ds) = None
-as_semigroup fail = None
-
-abbrev pub as_ideal : {H : Kind → Type 0} → Data H → Option (H ideals)
-as_ideal (ideal h) = Some h
-as_ideal (semigroup h) = None
-as_ideal (int z) = None
-as_ideal (truth b) = None
-as_ideal (text bs) = None
-as_ideal (list ds) = None
-as_ideal fail = None
-
--- a list of integers
-abbrev pub as_integers : {H : Kind → Type 0} → Data H → Option (List ℤ)
-as_integers (list ds) = integers ds
-as_integers (int z) = None
-as_integers (truth b) = None
-as_integers (text bs) = None
-as_integers fail = None
-as_integers (semigroup h) = None
-as_integers (ideal h) = None
-
--- the entries of a list that is the one argument
-abbrev pub entries_alone : {H : Kind → Type 0} → Option (Data H) → Option (Items H)
-entries_alone None = None
-entries_alone (Some d) = as_list d
-
-abbrev pub these_or : {H : Kind → Type 0} → Option (Items H) → Items H → Items H
-these_or None ds = ds
-these_or (Some es) ds = es
-
--- one list of integers, or integers as the arguments
-abbrev pub spread : {H : Kind → Type 0} → Items H → Option (List ℤ)
-spread ds = integers (these_or (entries_alone (sole ds)) ds)
-
--- a row that refuses nothing by itself
-abbrev pub answers : (Plain → Type 0) → Row
-answers value = record { size = ⊥; bad = ⊥; limit = ⊥; many = ⊥; budget = ⊥; value = value }
-
--- an integer of which P holds
-abbrev pub an_integer : (ℤ → Type 0) → Plain → Type 0
-an_integer P d = (z : ℤ) × (d ≡ int z) × P z
-
--- a natural of which P holds
-abbrev pub a_natural : (ℕ → Type 0) → Plain → Type 0
-a_natural P d = (n : ℕ) × (d ≡ int (pos n)) × P n
-
--- whether P holds
-abbrev pub whether : Type 0 → Plain → Type 0
-whether P d = (b : Bool) × (d ≡ truth b) × (IsTrue b ↔ P)
-
--- a row whose value is the numerical semigroup of the naturals with P; it is too large where that is not fit
-abbrev pub generates : (ℕ → Type 0) → Row
-generates P =
-    record (answers (λ d. (G : List ℕ) × (d ≡ semigroup G) × Generates P G)) { limit = (G : List ℕ) → Generates P G → ¬ IsFit G }
-
--- an entry of a list of integers, which has one
-abbrev pub an_entry : (ℤ → Type 0) → List ℤ → Case
-an_entry P zs = fits (record (answers (an_integer P)) { bad = zs ≡ [] })
+-- the row of what was taken
+abbrev pub fitted : {A : Type 0} → Option A → (A → Row) → Case
+fitted None row = unfit
+fitted (Some a) row = fits (row a)

@@ -2,7 +2,8 @@
 use Rattle.std.specs.Prelude.{◌≡◌, ◌⊎◌, ◌<◌, Result, Ok, Err, FitsSigned, ⊤}
 use Rattle.sg_value.specs.Plain.{Things}
 use Rattle.std.specs.Int.{w64}
-use Rattle.sg_value.specs.Data.{Data, int, truth, text, list, fail, semigroup, ideal, weight_of, depth_of, Kind}
+use Rattle.sg_value.specs.Data.{Data, int, weight_of, depth_of, Kind}
+use Rattle.sg_value.specs.declared.limits.TheConstants.{NESTING_LIMIT, WEIGHT_LIMIT}
 use Rattle.sg_rows.specs.declared.fault.Fault.{Fault}
 use Rattle.sg_rows.specs.declared.fault.Fault.TheVariants.{WrongType, Overflow, BadArgument, TooLarge, TooMany, Budget, Depth}
 
@@ -46,20 +47,15 @@ FirstOf (check c e more) rest r = (c × (r ≡ Err e)) ⊎ ((¬ c) × FirstOf mo
 -- an integer is in 64 bits
 abbrev pub InBits : {H : Kind → Type 0} → Data H → Type 0
 InBits (int z) = FitsSigned w64 z
-InBits (truth b) = ⊤
-InBits (text bs) = ⊤
-InBits (list ds) = ⊤
-InBits fail = ⊤
-InBits (semigroup h) = ⊤
-InBits (ideal h) = ⊤
+InBits _ = ⊤
 
 -- the refusals that a row names, in their order
 abbrev pub named_checks : Row → Checks
 named_checks row = check row.size TooLarge (check row.bad BadArgument (check row.limit TooLarge (check row.many TooMany (check row.budget Budget passed))))
 
--- the refusals of every value: an integer outside of 64 bits, lists nested more than 64 deep, a weight above 4194304
+-- the refusals of every value: an integer outside of 64 bits, lists nested too deep, a weight past its limit
 abbrev pub value_checks : {H : Kind → Type 0} → Data H → Checks
-value_checks d = check (¬ InBits d) Overflow (check (64 < depth_of d) Depth (check (4194304 < weight_of d) TooLarge passed))
+value_checks d = check (¬ InBits d) Overflow (check (NESTING_LIMIT < depth_of d) Depth (check (WEIGHT_LIMIT < weight_of d) TooLarge passed))
 
 -- the reply is the value that was found, or the first refusal of it
 abbrev pub Delivers : {H : Kind → Type 0} → Data H → Result (Data H) Fault → Type 0
@@ -69,3 +65,11 @@ Delivers d r = FirstOf (value_checks d) (λ s. s ≡ Ok d) r
 abbrev pub IsReply : Case → Reply → Type 0
 IsReply unfit r = r ≡ Err WrongType
 IsReply (fits row) r = FirstOf (named_checks row) (λ s. (d : Plain) × row.value d × Delivers d s) r
+
+-- none of the row's own refusals comes
+pub record Passes (row : Row) : Type 0 where
+  pub size : ¬ row.size
+  pub bad : ¬ row.bad
+  pub limit : ¬ row.limit
+  pub many : ¬ row.many
+  pub budget : ¬ row.budget

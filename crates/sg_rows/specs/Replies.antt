@@ -1,12 +1,9 @@
 -- What a call that answers a row gave.
-use Rattle.std.specs.Prelude.{◌≡◌, None, Result, Ok, Err, ⊤}
+use Rattle.std.specs.Prelude.{Result, Ok, Err, ⊤}
 use Rattle.sg_value.specs.Known.{Known, named}
-use Rattle.sg_value.specs.Data.{Data, Kind}
 use Rattle.sg_value.specs.Plain.{plain, AllKnown}
 use Rattle.sg_value.specs.declared.value.Value.{Value}
 use Rattle.sg_rows.specs.Order.{Case, IsReply}
-use Rattle.sg_rows.specs.Kinds.{as_integers}
-use Rattle.sg_rows.specs.declared.fault.Fault.TheVariants.{WrongType}
 use Rattle.sg_rows.specs.declared.fault.CallFault.{CallFault}
 use Rattle.sg_rows.specs.declared.fault.CallFault.TheVariants.{Script, Memory}
 
@@ -15,8 +12,3 @@ abbrev pub Replies : Result Value CallFault → Known → Case → Type 0
 Replies (Ok v) store c = IsReply c (Ok (plain (named store) v)) × AllKnown (named store) v
 Replies (Err (Script e)) store c = IsReply c (Err e)
 Replies (Err (Memory e)) store c = ⊤
-
--- the fault of a call that wants a list of integers: it is none, or memory ran out
-abbrev pub IsNoIntegers : {H : Kind → Type 0} → Data H → CallFault → Type 0
-IsNoIntegers d (Script e) = (e ≡ WrongType) × (as_integers d ≡ None)
-IsNoIntegers d (Memory e) = ⊤

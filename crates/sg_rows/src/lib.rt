@@ -1,26 +1,30 @@
-//! What every row of a command or an operator is made of: faults, kinds of values, and the order of refusals.
+//! What every row of a command or an operator is made of: faults, kinds of arguments, and the order of refusals.
 //!
-//! A row says what a call answers over plain values, in which a semigroup or an ideal is its minimal lists: the kinds that
-//! it takes, its conditions, and its value as a relation. The order in which refusals come, and the limits on every value, are
-//! stated once, for all rows (`specs/Order`). This crate knows no command.
+//! A row says what a call answers over plain data, in which a semigroup or an ideal is its minimal lists: its conditions,
+//! and its value as a relation (`specs/Order`). The order in which refusals come, and the limits on every value, are
+//! stated once, for all rows. This crate knows no command and no store.
 //!
-//! The layer above uses: `Replies` (`specs/Replies`) is the contract of every function that answers a row.
+//! The layer above uses: `Tells` (`specs/Made`) is the contract of every function that tells a row, by what it is told of
+//! (`OfTable` and its kin); `Replies` (`specs/Replies`) is that of every call that answers one over a store.
 #![tactic(auto)]
 
 mod fault;
-mod integer_lists;
 mod kinds;
 mod limits;
-mod listed;
-mod reply;
-mod spread;
-mod two_arguments;
+mod made;
+mod names;
+mod told;
 
 pub use fault::{CallFault, Fault};
-pub use integer_lists::{integers_of, list_of_integers};
-pub use kinds::{entries_of, ideal_of, integer_of, semigroup_of, truth};
-pub use limits::is_wide;
-pub use listed::{WEIGHT_LIMIT, integer_list, is_heavy, natural_list};
-pub use reply::{integer, natural};
-pub use spread::spread_integers;
-pub use two_arguments::semigroup_and_integer;
+pub use kinds::{
+    entries_of, ideal_of, integer_of, integer_then_ideal, integer_then_semigroup, integers_of,
+    list_or_integers, list_then_semigroup, one_ideal, one_list, one_list_of_integers,
+    one_semigroup, semigroup_and_integer, semigroup_of, three_integers, two_ideals, two_integers,
+    two_semigroups,
+};
+pub use limits::{is_heavy, is_wide};
+pub use made::{Made, integer};
+pub use names::{Named, find};
+pub use told::{
+    OfGenerators, OfIntegers, OfNumbers, OfTable, OfTableAndInteger, OfTableAndNumbers,
+};

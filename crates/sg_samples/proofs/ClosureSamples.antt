@@ -26,6 +26,7 @@ holds-three_five_seven K a b c n h =
 
 -- ---- Arf
 
+-- <3, 5, 7> is Arf
 pub arf : IsArf (3 ∷ 5 ∷ 7 ∷ [])
 arf x y z l m p q r =
     let a = three_five_seven-out x p in
@@ -37,6 +38,7 @@ arf x y z l m p q r =
 pub not_arf : IsArf (3 ∷ 5 ∷ []) → ⊥
 not_arf h = not_seven (h 5 5 3 (omega arith) (omega arith) five five three)
 
+-- it is the Arf closure of <3, 5>
 pub arf_closure : IsArfClosure (3 ∷ 5 ∷ []) (3 ∷ 5 ∷ 7 ∷ [])
 arf_closure = record { semigroup = three_five_seven; has = arf; holds = more_generators; least = least }
   where
@@ -51,6 +53,7 @@ three_five_seven-multiplicity = record { positive = omega arith; member = member
     least : (n : ℕ) → 0 < n → IsMember (3 ∷ 5 ∷ 7 ∷ []) n → 3 ≤ n
     least n l h = let o = three_five_seven-out n h in omega arith
 
+-- <3, 5, 7> is of maximal embedding dimension
 pub med : IsMed (3 ∷ 5 ∷ 7 ∷ [])
 med = (3, three_five_seven-multiplicity, sums)
   where
@@ -60,11 +63,13 @@ med = (3, three_five_seven-multiplicity, sums)
         let b = three_five_seven-out y q in
         three_five_seven-in (x + y - 3) (λ e. omega arith) (λ e. omega arith) (λ e. omega arith)
 
+-- <3, 5> is not
 pub not_med : IsMed (3 ∷ 5 ∷ []) → ⊥
 not_med h =
     let e : 5 + 5 - h.0 ≡ 7 = let m = one-multiplicity (3 ∷ 5 ∷ []) h.0 3 h.1 three_five-multiplicity in omega arith in
     not_seven (subst (IsMember (3 ∷ 5 ∷ [])) e (h.2 5 5 (omega arith) (omega arith) five five))
 
+-- its closure of that kind
 pub med_closure : IsMedClosure (3 ∷ 5 ∷ []) (3 ∷ 5 ∷ 7 ∷ [])
 med_closure = record { semigroup = three_five_seven; has = (med, same); holds = more_generators; least = least }
   where
@@ -104,6 +109,7 @@ threefold s l (t ∷ ss) (z ∷ zs) all =
     one (suc (suc (suc zero))) a b c k e = (z +ℤ k, omega (arith, ints, times_three z, e))
     one (suc (suc (suc (suc t)))) a b c k e = absurd (omega arith)
 
+-- <3, 5, 7> is saturated
 pub saturated : IsSaturated (3 ∷ 5 ∷ 7 ∷ [])
 saturated s ss zs r member all places value = elim (cases_lt s 5) [
   | inl small ↦
@@ -126,9 +132,11 @@ seven K h a b = h 5 (3 ∷ 5 ∷ []) (negsuc 0 ∷ pos 1 ∷ []) 2 b
     (All-cons (λ t. IsMember K t × (t ≤ 5)) 3 (5 ∷ []) (a, omega arith) (All-cons (λ t. IsMember K t × (t ≤ 5)) 5 [] (b, omega arith) (All-nil (λ t. IsMember K t × (t ≤ 5)))))
     refl refl
 
+-- <3, 5> is not
 pub not_saturated : IsSaturated (3 ∷ 5 ∷ []) → ⊥
 not_saturated h = not_seven (seven (3 ∷ 5 ∷ []) h three five)
 
+-- its saturated closure
 pub saturated_closure : IsSaturatedClosure (3 ∷ 5 ∷ []) (3 ∷ 5 ∷ 7 ∷ [])
 saturated_closure = record { semigroup = three_five_seven; has = saturated; holds = more_generators; least = least }
   where

@@ -35,6 +35,7 @@ cover_of_five = record { semigroup = three_four; minimal = three_four-minimal; s
           | inr other ↦ inl (three_seven_eight-in n o.0 o.1 other o.2)
         ]
 
+-- the cover of the gap 4
 pub cover_of_four : Generates (IsInCover (3 ∷ 7 ∷ 8 ∷ []) (pos 4)) (3 ∷ 5 ∷ 7 ∷ [])
 cover_of_four = record { semigroup = three_five_seven; minimal = three_five_seven-minimal; same = λ n. (inside n, outside n) }
   where
@@ -92,6 +93,7 @@ four_after_five = All-cons (λ k. (x : ℕ) × (pos 4 ≡ pos x) × IsInCover (3
     (4, refl, (cover_of_five.same 4).1 (member-entry (3 ∷ 4 ∷ []) 1 (omega arith)))
     (All-nil (λ k. (x : ℕ) × (pos 4 ≡ pos x) × IsInCover (3 ∷ 7 ∷ 8 ∷ []) k x))
 
+-- the decomposition of <3, 7, 8>
 pub decomposition : IsDecomposition (3 ∷ 7 ∷ 8 ∷ []) ((3 ∷ 4 ∷ []) ∷ (3 ∷ 5 ∷ 7 ∷ []) ∷ [])
 decomposition = record {
   special = pos 4 ∷ pos 5 ∷ [];
@@ -102,6 +104,7 @@ decomposition = record {
   whole = λ e. absurd (cc);
 }
 
+-- that of N
 pub natural-decomposition : IsDecomposition (1 ∷ []) ((1 ∷ []) ∷ [])
 natural-decomposition = record {
   special = [];
@@ -114,6 +117,7 @@ natural-decomposition = record {
 
 -- ---- none can be left out
 
+-- no member of it can be left out
 pub irredundant : IsIrredundant (3 ∷ 7 ∷ 8 ∷ []) ((3 ∷ 4 ∷ []) ∷ (3 ∷ 5 ∷ 7 ∷ []) ∷ [])
 irredundant = record { irreducible = irreducible; meets = λ x. (down x, up x); needed = needed }
   where

@@ -30,17 +30,21 @@ by_generator G x h = elim (contains-cases (pos 0) (pos 1 ∷ []) h.0 h.1) [
   ]
 ]
 
+-- 4 = 1 + 3
 pub four_in : IsIdealMember (3 ∷ 5 ∷ []) (pos 0 ∷ pos 1 ∷ []) (pos 4)
 four_in = (pos 1, one_there, member-entry (3 ∷ 5 ∷ []) 0 (omega arith))
 
+-- 1 is a generator
 pub one_in : IsIdealMember (3 ∷ 5 ∷ []) (pos 0 ∷ pos 1 ∷ []) (pos 1)
 one_in = (pos 1, one_there, member-zero (3 ∷ 5 ∷ []))
 
+-- 2 is neither 0 nor 1 and a member
 pub two_out : IsIdealMember (3 ∷ 5 ∷ []) (pos 0 ∷ pos 1 ∷ []) (pos 2) → ⊥
 two_out h = elim (by_generator (3 ∷ 5 ∷ []) (pos 2) h) [ inl m ↦ (three_five-out 2 m).1 refl | inr m ↦ (three_five-out 1 m).0 refl ]
 
 -- ---- operations
 
+-- 2 = 1 + 1
 pub two_in_sum : IsInSum (IsIdealMember (3 ∷ 5 ∷ []) (pos 0 ∷ pos 1 ∷ [])) (IsIdealMember (3 ∷ 5 ∷ []) (pos 0 ∷ pos 1 ∷ [])) (pos 2)
 two_in_sum = (pos 1, pos 1, one_in, one_in, refl)
 
@@ -49,6 +53,7 @@ not_negative k h =
     let e : negsuc k -ℤ pos 0 ≡ negsuc k = omega (arith, ints) in
     elim (by_generator (3 ∷ 5 ∷ []) (negsuc k) h) [ inl m ↦ subst (IsIntegerMember (3 ∷ 5 ∷ [])) e m | inr m ↦ m ]
 
+-- no negative integer is a sum
 pub negative_out_of_sum : IsInSum (IsIdealMember (3 ∷ 5 ∷ []) (pos 0 ∷ pos 1 ∷ [])) (IsIdealMember (3 ∷ 5 ∷ []) (pos 0 ∷ pos 1 ∷ [])) (negsuc 0) → ⊥
 negative_out_of_sum h = at h.0 h.1 h.2 h.3 h.4
   where
@@ -63,18 +68,23 @@ seven_in_difference (pos zero) h = absurd (h.0 refl)
 seven_in_difference (pos (suc n)) h = three_five-in (7 + suc n) (λ e. omega arith) (λ e. omega arith) (λ e. omega arith) (λ e. omega arith)
 seven_in_difference (negsuc k) h = absurd h.1
 
+-- 3 is a member but 0
 pub three_in_maximal : IsInMaximal (3 ∷ 5 ∷ []) (pos 3)
 three_in_maximal = ((λ e. omega (arith, ints, e)), member-entry (3 ∷ 5 ∷ []) 0 (omega arith))
 
+-- 0 is left out
 pub zero_out_of_maximal : IsInMaximal (3 ∷ 5 ∷ []) (pos 0) → ⊥
 zero_out_of_maximal h = h.0 refl
 
+-- 4 + 3 is a gap
 pub four_out_of_difference : IsInDifference (IsIntegerMember (3 ∷ 5 ∷ [])) (IsInMaximal (3 ∷ 5 ∷ [])) (pos 4) → ⊥
 four_out_of_difference h = (three_five-out 7 (h (pos 3) three_in_maximal)).3 refl
 
+-- 2 is a sum of two members
 pub two_in_double : IsInMultiple 2 (IsIdealMember (3 ∷ 5 ∷ []) (pos 0 ∷ pos 1 ∷ [])) (pos 2)
 two_in_double = (pos 1, pos 1, one_in, (pos 1, pos 0, one_in, refl, refl), refl)
 
+-- and not of one
 pub two_out_of_single : IsInMultiple 1 (IsIdealMember (3 ∷ 5 ∷ []) (pos 0 ∷ pos 1 ∷ [])) (pos 2) → ⊥
 two_out_of_single h =
     let e : h.0 ≡ pos 2 = omega (arith, ints, h.3, h.4) in
@@ -95,6 +105,7 @@ three = member-entry (3 ∷ 7 ∷ 8 ∷ []) 0 (omega arith)
 none : IsMember (3 ∷ 7 ∷ 8 ∷ []) 0
 none = member-zero (3 ∷ 7 ∷ 8 ∷ [])
 
+-- the canonical ideal of <3, 7, 8>
 pub canonical : (x : ℤ) → IsInCanonical (3 ∷ 7 ∷ 8 ∷ []) x ↔ IsIdealMember (3 ∷ 7 ∷ 8 ∷ []) (pos 0 ∷ pos 1 ∷ []) x
 canonical x = (there, back x)
   where
@@ -123,6 +134,7 @@ canonical x = (there, back x)
 
 -- ---- minimal lists
 
+-- neither 0 nor 1 is to spare
 pub minimal : IsMinimalIdeal (3 ∷ 5 ∷ []) (pos 0 ∷ pos 1 ∷ [])
 minimal = record { ascending = ascending; needed = λ x y p q. needed x y (contains-cases (pos 0) (pos 1 ∷ []) x p) (contains-cases (pos 0) (pos 1 ∷ []) y q) }
   where

@@ -14,6 +14,7 @@ use Rattle.sg_samples.proofs.KnownSemigroups.{natural, three_five-in, three_five
 
 -- ---- Frobenius numbers and conductors
 
+-- that of <3, 5>
 pub three_five-frobenius : IsFrobenius (3 ∷ 5 ∷ []) (pos 7)
 three_five-frobenius = record { outside = λ h. (three_five-out 7 h).3 refl; above = above }
   where
@@ -21,9 +22,11 @@ three_five-frobenius = record { outside = λ h. (three_five-out 7 h).3 refl; abo
     above (pos n) l = three_five-in n (λ e. omega (arith, ints, l)) (λ e. omega (arith, ints, l)) (λ e. omega (arith, ints, l)) (λ e. omega (arith, ints, l))
     above (negsuc n) l = absurd (omega (arith, ints, l))
 
+-- 4 is not, as 7 is above it
 pub not_four : IsFrobenius (3 ∷ 5 ∷ []) (pos 4) → ⊥
 not_four f = (three_five-out 7 (f.above (pos 7) (omega (arith, ints)))).3 refl
 
+-- that of N
 pub natural-frobenius : IsFrobenius (1 ∷ []) (negsuc 0)
 natural-frobenius = record { outside = λ h. h; above = above }
   where
@@ -31,6 +34,7 @@ natural-frobenius = record { outside = λ h. h; above = above }
     above (pos n) l = natural n
     above (negsuc n) l = absurd (omega (arith, ints, l))
 
+-- that of <3, 5, 7>
 pub three_five_seven-frobenius : IsFrobenius (3 ∷ 5 ∷ 7 ∷ []) (pos 4)
 three_five_seven-frobenius = record { outside = λ h. (three_five_seven-out 4 h).2 refl; above = above }
   where
@@ -40,6 +44,7 @@ three_five_seven-frobenius = record { outside = λ h. (three_five_seven-out 4 h)
 
 -- ---- gaps
 
+-- the gaps of <3, 5>
 pub three_five-gaps : Lists (IsGap (3 ∷ 5 ∷ [])) (1 ∷ 2 ∷ 4 ∷ 7 ∷ [])
 three_five-gaps = listed (IsGap (3 ∷ 5 ∷ [])) (1 ∷ 2 ∷ 4 ∷ 7 ∷ []) ascending all there
   where
@@ -64,14 +69,17 @@ three_five-gaps = listed (IsGap (3 ∷ 5 ∷ [])) (1 ∷ 2 ∷ 4 ∷ 7 ∷ []) a
     there (suc (suc (suc (suc (suc (suc (suc (suc n)))))))) g =
         absurd (g (three_five-in (suc (suc (suc (suc (suc (suc (suc (suc n)))))))) (λ e. omega arith) (λ e. omega arith) (λ e. omega arith) (λ e. omega arith)))
 
+-- they are four
 pub three_five-genus : IsGenus (3 ∷ 5 ∷ []) 4
 three_five-genus = (1 ∷ 2 ∷ 4 ∷ 7 ∷ [], three_five-gaps, refl)
 
+-- N has none
 pub natural-genus : IsGenus (1 ∷ []) 0
 natural-genus = ([], listed (IsGap (1 ∷ [])) [] ascending-nil (All-nil (IsGap (1 ∷ []))) (λ n g. absurd (g (natural n))), refl)
 
 -- ---- small elements
 
+-- the members of <3, 5, 7> up to the conductor
 pub three_five_seven-small : AreSmallElements (3 ∷ 5 ∷ 7 ∷ []) (0 ∷ 3 ∷ 5 ∷ [])
 three_five_seven-small = (5, three_five_seven-frobenius, listed (λ n. IsMember (3 ∷ 5 ∷ 7 ∷ []) n × (n ≤ 5)) (0 ∷ 3 ∷ 5 ∷ []) ascending all there)
   where
@@ -93,6 +101,7 @@ three_five_seven-small = (5, three_five_seven-frobenius, listed (λ n. IsMember 
     there (suc (suc (suc (suc (suc zero))))) h = later 0 (3 ∷ 5 ∷ []) 5 (later 3 (5 ∷ []) 5 (here 5 []))
     there (suc (suc (suc (suc (suc (suc n)))))) h = absurd (omega arith)
 
+-- those of N
 pub natural-small : AreSmallElements (1 ∷ []) (0 ∷ [])
 natural-small = (0, natural-frobenius, listed (λ n. IsMember (1 ∷ []) n × (n ≤ 0)) (0 ∷ []) (ascending-one 0) all there)
   where
@@ -114,6 +123,7 @@ two_pseudo = record { outside = λ h. (three_five_seven-out 2 h).1 refl; absorbe
 four_pseudo : IsPseudoFrobenius (3 ∷ 5 ∷ 7 ∷ []) (pos 4)
 four_pseudo = record { outside = λ h. (three_five_seven-out 4 h).2 refl; absorbed = λ s l h. three_five_seven-above (4 + s) (omega arith) }
 
+-- the pseudo-Frobenius numbers of <3, 5, 7>
 pub three_five_seven-pseudo : ListsIntegers (IsPseudoFrobenius (3 ∷ 5 ∷ 7 ∷ [])) (pos 2 ∷ pos 4 ∷ [])
 three_five_seven-pseudo = record { ascending = ascending; exactly = λ x. (contained (IsPseudoFrobenius (3 ∷ 5 ∷ 7 ∷ [])) (pos 2 ∷ pos 4 ∷ []) x all, there x) }
   where
@@ -136,6 +146,7 @@ three_five_seven-pseudo = record { ascending = ascending; exactly = λ x. (conta
         let four : negsuc k +ℤ pos (5 + k) ≡ pos 4 = omega (arith, ints) in
         absurd ((three_five_seven-out 4 (subst (IsIntegerMember (3 ∷ 5 ∷ 7 ∷ [])) four (p.absorbed (5 + k) (omega arith) (three_five_seven-above (5 + k) (omega arith))))).2 refl)
 
+-- they are two
 pub three_five_seven-type : IsType (3 ∷ 5 ∷ 7 ∷ []) 2
 three_five_seven-type = (pos 2 ∷ pos 4 ∷ [], three_five_seven-pseudo, refl)
 
@@ -176,6 +187,7 @@ three_five_seven-special = record {
     there x s (inl e) = absurd ((three_five_seven-out 4 (subst (λ y. IsIntegerMember (3 ∷ 5 ∷ 7 ∷ []) (y +ℤ y)) (sym e) s.double)).2 refl)
     there x s (inr h) = h
 
+-- N has no special gap
 pub natural-special : ListsIntegers (IsSpecialGap (1 ∷ [])) []
 natural-special = record { ascending = pairs-nil (λ x y. x <ℤ y); exactly = λ x. ((λ h. absurd (contains-nil x h)), λ s. absurd (none x s)) }
   where
@@ -183,6 +195,7 @@ natural-special = record { ascending = pairs-nil (λ x y. x <ℤ y); exactly = �
     none (pos n) s = s.pseudo_frobenius.outside (natural n)
     none (negsuc n) s = s.double
 
+-- the fundamental gap of <3, 5, 7>
 pub three_five_seven-fundamental : Lists (IsFundamentalGap (3 ∷ 5 ∷ 7 ∷ [])) (4 ∷ [])
 three_five_seven-fundamental = listed (IsFundamentalGap (3 ∷ 5 ∷ 7 ∷ [])) (4 ∷ []) (ascending-one 4) (All-cons (IsFundamentalGap (3 ∷ 5 ∷ 7 ∷ [])) 4 [] four (All-nil (IsFundamentalGap (3 ∷ 5 ∷ 7 ∷ [])))) there
   where

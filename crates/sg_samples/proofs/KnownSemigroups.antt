@@ -9,6 +9,7 @@ use Rattle.sg_samples.proofs.SmallLemmas.{members-above, by_two, by_three}
 
 -- ---- the naturals
 
+-- N has each natural
 pub natural : (n : ℕ) → IsMember (1 ∷ []) n
 natural n = (n ∷ [], record { places = refl; value = omega arith })
 
@@ -47,14 +48,17 @@ five_on (suc zero) l = (2 ∷ 0 ∷ 0 ∷ [], record { places = refl; value = re
 five_on (suc (suc zero)) l = (0 ∷ 0 ∷ 1 ∷ [], record { places = refl; value = refl })
 five_on (suc (suc (suc i))) l = absurd (omega arith)
 
+-- what <3, 5, 7> lacks
 pub three_five_seven-out : (n : ℕ) → IsMember (3 ∷ 5 ∷ 7 ∷ []) n → (n ≢ 1) × (n ≢ 2) × (n ≢ 4)
 three_five_seven-out n h =
     let p = by_three 3 5 7 n h.0 h.1 in
     ((λ e. omega (arith, p.4)), (λ e. omega (arith, p.4)), (λ e. omega (arith, p.4)))
 
+-- it has all from 5 on
 pub three_five_seven-above : (n : ℕ) → 5 ≤ n → IsMember (3 ∷ 5 ∷ 7 ∷ []) n
 three_five_seven-above n l = members-above (3 ∷ 5 ∷ 7 ∷ []) 3 5 (omega arith) (member-entry (3 ∷ 5 ∷ 7 ∷ []) 0 (omega arith)) five_on n l
 
+-- it lacks nothing else
 pub three_five_seven-in : (n : ℕ) → n ≢ 1 → n ≢ 2 → n ≢ 4 → IsMember (3 ∷ 5 ∷ 7 ∷ []) n
 three_five_seven-in zero a b c = member-zero (3 ∷ 5 ∷ 7 ∷ [])
 three_five_seven-in (suc zero) a b c = absurd (a refl)
@@ -71,11 +75,13 @@ six_on (suc zero) l = (1 ∷ 1 ∷ [], record { places = refl; value = refl })
 six_on (suc (suc zero)) l = (0 ∷ 2 ∷ [], record { places = refl; value = refl })
 six_on (suc (suc (suc i))) l = absurd (omega arith)
 
+-- what <3, 4> lacks
 pub three_four-out : (n : ℕ) → IsMember (3 ∷ 4 ∷ []) n → (n ≢ 1) × (n ≢ 2) × (n ≢ 5)
 three_four-out n h =
     let p = by_two 3 4 n h.0 h.1 in
     ((λ e. omega (arith, p.3)), (λ e. omega (arith, p.3)), (λ e. omega (arith, p.3)))
 
+-- it lacks nothing else
 pub three_four-in : (n : ℕ) → n ≢ 1 → n ≢ 2 → n ≢ 5 → IsMember (3 ∷ 4 ∷ []) n
 three_four-in zero a b c = member-zero (3 ∷ 4 ∷ [])
 three_four-in (suc zero) a b c = absurd (a refl)
@@ -94,14 +100,17 @@ more_from_six (suc zero) l = (0 ∷ 1 ∷ 0 ∷ [], record { places = refl; valu
 more_from_six (suc (suc zero)) l = (0 ∷ 0 ∷ 1 ∷ [], record { places = refl; value = refl })
 more_from_six (suc (suc (suc i))) l = absurd (omega arith)
 
+-- what <3, 7, 8> lacks
 pub three_seven_eight-out : (n : ℕ) → IsMember (3 ∷ 7 ∷ 8 ∷ []) n → (n ≢ 1) × (n ≢ 2) × (n ≢ 4) × (n ≢ 5)
 three_seven_eight-out n h =
     let p = by_three 3 7 8 n h.0 h.1 in
     ((λ e. omega (arith, p.4)), (λ e. omega (arith, p.4)), (λ e. omega (arith, p.4)), (λ e. omega (arith, p.4)))
 
+-- it has all from 6 on
 pub three_seven_eight-above : (n : ℕ) → 6 ≤ n → IsMember (3 ∷ 7 ∷ 8 ∷ []) n
 three_seven_eight-above n l = members-above (3 ∷ 7 ∷ 8 ∷ []) 3 6 (omega arith) (member-entry (3 ∷ 7 ∷ 8 ∷ []) 0 (omega arith)) more_from_six n l
 
+-- it lacks nothing else
 pub three_seven_eight-in : (n : ℕ) → n ≢ 1 → n ≢ 2 → n ≢ 4 → n ≢ 5 → IsMember (3 ∷ 7 ∷ 8 ∷ []) n
 three_seven_eight-in zero a b c d = member-zero (3 ∷ 7 ∷ 8 ∷ [])
 three_seven_eight-in (suc zero) a b c d = absurd (a refl)
@@ -121,6 +130,7 @@ coprime-to_three (suc (suc zero)) g h k other = let e : ◌≡◌ {A = ℕ} 1 0 
 coprime-to_three (suc (suc (suc zero))) g h k other = absurd (other (mod-eq-zero_of_dvd 3 k))
 coprime-to_three (suc (suc (suc (suc d)))) g h k other = let l : suc (suc (suc (suc d))) ≤ 3 = le_of_dvd (omega arith) h in absurd (omega arith)
 
+-- 1 generates N
 pub naturals : IsNumericalSemigroup (1 ∷ [])
 naturals = record {
   not_empty = omega arith;
@@ -128,6 +138,7 @@ naturals = record {
   coprime = λ d h. le_of_dvd (omega arith) (h 0 0 (omega arith));
 }
 
+-- 3 and 5 have no common divisor
 pub three_five : IsNumericalSemigroup (3 ∷ 5 ∷ [])
 three_five = record {
   not_empty = omega arith;
@@ -135,6 +146,7 @@ three_five = record {
   coprime = λ d h. coprime-to_three d 5 (h 0 0 (omega arith)) (h 1 0 (omega arith)) (λ e. omega arith);
 }
 
+-- nor have 3 and 4
 pub three_four : IsNumericalSemigroup (3 ∷ 4 ∷ [])
 three_four = record {
   not_empty = omega arith;
@@ -142,6 +154,7 @@ three_four = record {
   coprime = λ d h. coprime-to_three d 4 (h 0 0 (omega arith)) (h 1 0 (omega arith)) (λ e. omega arith);
 }
 
+-- nor 3, 5 and 7
 pub three_five_seven : IsNumericalSemigroup (3 ∷ 5 ∷ 7 ∷ [])
 three_five_seven = record {
   not_empty = omega arith;
@@ -149,6 +162,7 @@ three_five_seven = record {
   coprime = λ d h. coprime-to_three d 5 (h 0 0 (omega arith)) (h 1 0 (omega arith)) (λ e. omega arith);
 }
 
+-- nor 3, 7 and 8
 pub three_seven_eight : IsNumericalSemigroup (3 ∷ 7 ∷ 8 ∷ [])
 three_seven_eight = record {
   not_empty = omega arith;

@@ -9,9 +9,11 @@ use Rattle.sg_defs.proofs.MembershipLemmas.{member-entry, member-zero}
 use Rattle.sg_samples.proofs.SmallLemmas.{ascending-cons, ascending-one, by_one, by_two, by_three}
 use Rattle.sg_samples.proofs.KnownSemigroups.{three_five, three_five-out, three_five_seven, three_five_seven-in, three_five_seven-out}
 
+-- 8 = 3 + 5
 pub eight : IsMember (3 ∷ 5 ∷ []) 8
 eight = (1 ∷ 1 ∷ [], record { places = refl; value = refl })
 
+-- 7 is no such sum
 pub not_seven : IsMember (3 ∷ 5 ∷ []) 7 → ⊥
 not_seven h = (three_five-out 7 h).3 refl
 
@@ -36,6 +38,7 @@ three_five-minimal = record { ascending = ascending-cons 3 5 [] (omega arith) (a
 pub eight_is_spare : IsMinimal (3 ∷ 5 ∷ 8 ∷ []) → ⊥
 eight_is_spare m = m.needed 2 (omega arith) eight
 
+-- <3, 5, 7> has no generator to spare
 pub three_five_seven-minimal : IsMinimal (3 ∷ 5 ∷ 7 ∷ [])
 three_five_seven-minimal = record { ascending = ascending-cons 3 5 (7 ∷ []) (omega arith) (ascending-cons 5 7 [] (omega arith) (ascending-one 7)); needed = needed }
   where
@@ -45,6 +48,7 @@ three_five_seven-minimal = record { ascending = ascending-cons 3 5 (7 ∷ []) (o
     needed (suc (suc zero)) l h = let p = by_two 3 5 7 h.0 h.1 in omega (arith, p.3)
     needed (suc (suc (suc k))) l h = absurd (omega arith)
 
+-- nor has <3, 4>
 pub three_four-minimal : IsMinimal (3 ∷ 4 ∷ [])
 three_four-minimal = record { ascending = ascending-cons 3 4 [] (omega arith) (ascending-one 4); needed = needed }
   where
@@ -53,6 +57,7 @@ three_four-minimal = record { ascending = ascending-cons 3 4 [] (omega arith) (a
     needed (suc zero) l h = let p = by_one 3 4 h.0 h.1 in omega (arith, p.2)
     needed (suc (suc k)) l h = absurd (omega arith)
 
+-- nor has N
 pub one-minimal : IsMinimal (1 ∷ [])
 one-minimal = record { ascending = ascending-one 1; needed = needed }
   where
@@ -68,6 +73,7 @@ all_but_three = record {
   same = λ n. ((λ h. three_five_seven-in n h.0 h.1 h.2), three_five_seven-out n);
 }
 
+-- 8 = 3 + 5 is to spare
 pub without_the_spare : Generates (IsMember (3 ∷ 5 ∷ 8 ∷ [])) (3 ∷ 5 ∷ [])
 without_the_spare = record { semigroup = three_five; minimal = three_five-minimal; same = λ n. (less n, more n) }
   where
@@ -81,20 +87,24 @@ without_the_spare = record { semigroup = three_five; minimal = three_five-minima
         let p = by_two 3 5 n h.0 h.1 in
         (p.0 ∷ p.1 ∷ 0 ∷ [], record { places = refl; value = omega (arith, p.3) })
 
+-- more generators, more members
 pub more_generators : Holds (3 ∷ 5 ∷ 7 ∷ []) (3 ∷ 5 ∷ [])
 more_generators n h =
     let p = by_two 3 5 n h.0 h.1 in
     (p.0 ∷ p.1 ∷ 0 ∷ [], record { places = refl; value = omega (arith, p.3) })
 
+-- 7 is the member that <3, 5> lacks
 pub fewer_generators : Holds (3 ∷ 5 ∷ []) (3 ∷ 5 ∷ 7 ∷ []) → ⊥
 fewer_generators h = not_seven (h 7 (member-entry (3 ∷ 5 ∷ 7 ∷ []) 2 (omega arith)))
 
+-- the multiplicity of <3, 5>
 pub three_five-multiplicity : IsMultiplicity (3 ∷ 5 ∷ []) 3
 three_five-multiplicity = record { positive = omega arith; member = member-entry (3 ∷ 5 ∷ []) 0 (omega arith); least = least }
   where
     least : (n : ℕ) → 0 < n → IsMember (3 ∷ 5 ∷ []) n → 3 ≤ n
     least n l h = let o = three_five-out n h in omega arith
 
+-- 5 is not, as 3 is below it
 pub not_five : IsMultiplicity (3 ∷ 5 ∷ []) 5 → ⊥
 not_five m = let l = m.least 3 (omega arith) (member-entry (3 ∷ 5 ∷ []) 0 (omega arith)) in omega arith
 
@@ -103,6 +113,7 @@ not_five m = let l = m.least 3 (omega arith) (member-entry (3 ∷ 5 ∷ []) 0 (o
 ten : IsMember (3 ∷ 5 ∷ []) 10
 ten = (0 ∷ 2 ∷ [], record { places = refl; value = refl })
 
+-- the Apery list of <3, 5> modulo 3
 pub apery : IsApery (3 ∷ 5 ∷ []) 3 (0 ∷ 10 ∷ 5 ∷ [])
 apery = record { entries = refl; member = member; residue = residue; least = least }
   where
@@ -124,6 +135,7 @@ apery = record { entries = refl; member = member; residue = residue; least = lea
     least (suc (suc zero)) y l e h = (three_five-out y h).1 (omega arith)
     least (suc (suc (suc i))) y l e h = absurd (omega arith)
 
+-- its entry 1
 pub apery_entry : IsAperyEntry (3 ∷ 5 ∷ []) 3 1 10
 apery_entry = record { member = ten; residue = refl; least = λ y e h. (three_five-out y h).3 (omega arith) }
 

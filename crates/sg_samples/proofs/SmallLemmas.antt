@@ -21,12 +21,14 @@ by_one g n [] h = absurd (omega (arith, h.places))
 by_one g n (a ∷ []) h = (a, refl, omega (arith, h.value))
 by_one g n (a ∷ b ∷ z) h = absurd (omega (arith, h.places))
 
+-- a factorization by two generators
 pub by_two : (g h n : ℕ) (z : List ℕ) → IsFactorization (g ∷ h ∷ []) n z → (a b : ℕ) × (z ≡ a ∷ b ∷ []) × (a * g + b * h ≡ n)
 by_two g h n [] f = absurd (omega (arith, f.places))
 by_two g h n (a ∷ []) f = absurd (omega (arith, f.places))
 by_two g h n (a ∷ b ∷ []) f = (a, b, refl, omega (arith, f.value))
 by_two g h n (a ∷ b ∷ c ∷ z) f = absurd (omega (arith, f.places))
 
+-- by three
 pub by_three : (g h k n : ℕ) (z : List ℕ) → IsFactorization (g ∷ h ∷ k ∷ []) n z → (a b c : ℕ) × (z ≡ a ∷ b ∷ c ∷ []) × (a * g + b * h + c * k ≡ n)
 by_three g h k n [] f = absurd (omega (arith, f.places))
 by_three g h k n (a ∷ []) f = absurd (omega (arith, f.places))
@@ -34,6 +36,7 @@ by_three g h k n (a ∷ b ∷ []) f = absurd (omega (arith, f.places))
 by_three g h k n (a ∷ b ∷ c ∷ []) f = (a, b, c, refl, omega (arith, f.value))
 by_three g h k n (a ∷ b ∷ c ∷ d ∷ z) f = absurd (omega (arith, f.places))
 
+-- by four
 pub by_four : (g h k m n : ℕ) (z : List ℕ) → IsFactorization (g ∷ h ∷ k ∷ m ∷ []) n z → (a b c d : ℕ) × (z ≡ a ∷ b ∷ c ∷ d ∷ []) × (a * g + b * h + c * k + d * m ≡ n)
 by_four g h k m n [] f = absurd (omega (arith, f.places))
 by_four g h k m n (a ∷ []) f = absurd (omega (arith, f.places))
@@ -44,12 +47,15 @@ by_four g h k m n (a ∷ b ∷ c ∷ d ∷ e ∷ z) f = absurd (omega (arith, f.
 
 -- ---- short lists
 
+-- nothing stands in an empty list
 pub contains-nil : {A : Type 0} (x : A) → Contains [] x → ⊥
 contains-nil x h = omega (arith, h.1)
 
+-- the first entry stands there
 pub here : {A : Type 0} (x : A) (xs : List A) → Contains (x ∷ xs) x
 here x xs = (0, omega arith, refl)
 
+-- so do the later ones
 pub later : {A : Type 0} (y : A) (xs : List A) (x : A) → Contains xs x → Contains (y ∷ xs) x
 later y xs x h = (suc h.0, omega (arith, h.1), h.2)
 
@@ -57,21 +63,26 @@ later y xs x h = (suc h.0, omega (arith, h.1), h.2)
 pub contained : {A : Type 0} (P : A → Type 0) (xs : List A) (x : A) → All P xs → Contains xs x → P x
 contained P xs x all h = subst P h.2 (all h.0 x h.1)
 
+-- no pair in an empty list
 pub pairs-nil : {A : Type 0} (R : A → A → Type 0) → AllPairs R []
 pairs-nil R i j d l k = absurd (omega arith)
 
+-- the first entry with each later one, and the later ones
 pub pairs-cons : {A : Type 0} (R : A → A → Type 0) (x : A) (xs : List A) → All (R x) xs → AllPairs R xs → AllPairs R (x ∷ xs)
 pairs-cons R x xs first rest zero zero d l k = absurd (omega arith)
 pairs-cons R x xs first rest zero (suc j) d l k = first j d (omega arith)
 pairs-cons R x xs first rest (suc i) zero d l k = absurd (omega arith)
 pairs-cons R x xs first rest (suc i) (suc j) d l k = rest i j d (omega arith) (omega arith)
 
+-- an empty list ascends
 pub ascending-nil : IsStrictlyIncreasing []
 ascending-nil k l = absurd (omega arith)
 
+-- so does one number
 pub ascending-one : (x : ℕ) → IsStrictlyIncreasing (x ∷ [])
 ascending-one x k l = absurd (omega arith)
 
+-- so does a number before greater ones
 pub ascending-cons : (x y : ℕ) (ys : List ℕ) → x < y → IsStrictlyIncreasing (y ∷ ys) → IsStrictlyIncreasing (x ∷ y ∷ ys)
 ascending-cons x y ys less rest zero l = less
 ascending-cons x y ys less rest (suc k) l =

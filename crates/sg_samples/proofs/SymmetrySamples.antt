@@ -33,6 +33,7 @@ three_five-mirror (pos (suc (suc (suc (suc (suc (suc (suc (suc n))))))))) =
     first_only (three_five-in (suc (suc (suc (suc (suc (suc (suc (suc n)))))))) (λ e. omega arith) (λ e. omega arith) (λ e. omega arith) (λ e. omega arith)) (λ h. subst (IsIntegerMember (3 ∷ 5 ∷ [])) below h)
 three_five-mirror (negsuc k) = second_only (three_five-in (7 + suc k) (λ e. omega arith) (λ e. omega arith) (λ e. omega arith) (λ e. omega arith)) (λ h. h)
 
+-- <3, 5> is symmetric
 pub three_five-symmetric : IsSymmetric (3 ∷ 5 ∷ [])
 three_five-symmetric = record { frobenius = pos 7; is_frobenius = three_five-frobenius; mirrored = three_five-mirror }
 
@@ -64,6 +65,7 @@ natural-mirror (pos zero) = first_only (natural 0) (λ h. h)
 natural-mirror (pos (suc n)) = first_only (natural (suc n)) (λ h. h)
 natural-mirror (negsuc k) = let e : pos k ≡ negsuc 0 -ℤ negsuc k = omega (arith, ints) in second_only (subst (IsIntegerMember (1 ∷ [])) e (natural k)) (λ h. h)
 
+-- so is N
 pub natural-symmetric : IsSymmetric (1 ∷ [])
 natural-symmetric = record { frobenius = negsuc 0; is_frobenius = natural-frobenius; mirrored = natural-mirror }
 
@@ -100,6 +102,7 @@ three_five_seven-mirror (pos (suc (suc (suc (suc (suc n)))))) d =
     first_only (three_five_seven-above (suc (suc (suc (suc (suc n))))) (omega arith)) (λ h. subst (IsIntegerMember (3 ∷ 5 ∷ 7 ∷ [])) below h)
 three_five_seven-mirror (negsuc k) d = second_only (three_five_seven-above (4 + suc k) (omega arith)) (λ h. h)
 
+-- <3, 5, 7> is pseudo-symmetric
 pub three_five_seven-pseudo_symmetric : IsPseudoSymmetric (3 ∷ 5 ∷ 7 ∷ [])
 three_five_seven-pseudo_symmetric = record { half = pos 2; is_frobenius = three_five_seven-frobenius; mirrored = three_five_seven-mirror }
 
@@ -121,15 +124,19 @@ not_pseudo_symmetric s = at s.half s.is_frobenius
 
 -- ---- irreducible
 
+-- <3, 5> is irreducible
 pub three_five-irreducible : IsIrreducible (3 ∷ 5 ∷ [])
 three_five-irreducible = symmetric-irreducible (3 ∷ 5 ∷ []) three_five-symmetric
 
+-- so is <3, 4>
 pub three_four-irreducible : IsIrreducible (3 ∷ 4 ∷ [])
 three_four-irreducible = symmetric-irreducible (3 ∷ 4 ∷ []) three_four-symmetric
 
+-- so is N
 pub natural-irreducible : IsIrreducible (1 ∷ [])
 natural-irreducible = symmetric-irreducible (1 ∷ []) natural-symmetric
 
+-- so is <3, 5, 7>
 pub three_five_seven-irreducible : IsIrreducible (3 ∷ 5 ∷ 7 ∷ [])
 three_five_seven-irreducible = pseudo_symmetric-irreducible (3 ∷ 5 ∷ 7 ∷ []) three_five_seven-pseudo_symmetric
 
@@ -143,6 +150,7 @@ in_both n = (down, up)
     up : IsMember (3 ∷ 4 ∷ []) n × IsMember (3 ∷ 5 ∷ 7 ∷ []) n → IsMember (3 ∷ 7 ∷ 8 ∷ []) n
     up h = let o = three_four-out n h.0 in let p = three_five_seven-out n h.1 in three_seven_eight-in n o.0 o.1 p.2 o.2
 
+-- <3, 7, 8> is the meet of two
 pub reducible : IsIrreducible (3 ∷ 7 ∷ 8 ∷ []) → ⊥
 reducible h = h (3 ∷ 4 ∷ []) (3 ∷ 5 ∷ 7 ∷ [])
     (record { semigroup = three_four; holds = λ n m. ((in_both n).0 m).0; more = (4, member-entry (3 ∷ 4 ∷ []) 1 (omega arith), λ m. (three_seven_eight-out 4 m).2 refl) })

@@ -177,6 +177,7 @@ two_is_left h =
     let e : c.0 ≡ 2 = omega (arith, ints, c.1) in
     (three_four-out 2 (subst (IsMember (3 ∷ 4 ∷ [])) e ((cover_of_five.same c.0).0 c.2))).1 refl
 
+-- of three special gaps two are chosen
 pub one_is_left : IsDecomposition (4 ∷ 6 ∷ 7 ∷ 9 ∷ []) ((3 ∷ 4 ∷ []) ∷ (2 ∷ 5 ∷ []) ∷ [])
 one_is_left = record {
   special = pos 2 ∷ pos 3 ∷ pos 5 ∷ [];

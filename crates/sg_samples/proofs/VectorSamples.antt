@@ -15,6 +15,7 @@ below = (refl, each)
     each (suc zero) = omega arith
     each (suc (suc k)) = omega arith
 
+-- 2 is above 1
 pub not_below : IsBelow (2 ∷ 0 ∷ []) (1 ∷ 2 ∷ []) → ⊥
 not_below h = omega (arith, h.1 0)
 
@@ -49,6 +50,7 @@ either z f =
 abbrev Above : List ℕ → List ℕ → Type 0
 Above x y = IsLexBelow y x
 
+-- the factorizations of 15, the greatest first
 pub descending_fifteen : ListsDescending (IsFactorization (3 ∷ 5 ∷ []) 15) ((5 ∷ 0 ∷ []) ∷ (0 ∷ 3 ∷ []) ∷ [])
 descending_fifteen = record {
   descending = pairs-cons Above (5 ∷ 0 ∷ []) ((0 ∷ 3 ∷ []) ∷ [])
@@ -65,6 +67,7 @@ descending_fifteen = record {
     there z (inl e) = subst (Contains ((5 ∷ 0 ∷ []) ∷ (0 ∷ 3 ∷ []) ∷ [])) (sym e) (here (5 ∷ 0 ∷ []) ((0 ∷ 3 ∷ []) ∷ []))
     there z (inr e) = subst (Contains ((5 ∷ 0 ∷ []) ∷ (0 ∷ 3 ∷ []) ∷ [])) (sym e) (later (5 ∷ 0 ∷ []) ((0 ∷ 3 ∷ []) ∷ []) (0 ∷ 3 ∷ []) (here (0 ∷ 3 ∷ []) []))
 
+-- the least first
 pub ascending_fifteen : ListsAscending (IsFactorization (3 ∷ 5 ∷ []) 15) ((0 ∷ 3 ∷ []) ∷ (5 ∷ 0 ∷ []) ∷ [])
 ascending_fifteen = record {
   ascending = pairs-cons IsLexBelow (0 ∷ 3 ∷ []) ((5 ∷ 0 ∷ []) ∷ [])

@@ -6,7 +6,7 @@ use Rattle.std.proofs.lemmas.List.{length_push}
 use Rattle.std.proofs.lemmas.List.Elements.{Contains-append_left, Contains-push}
 use Rattle.std.proofs.lemmas.List.Kept.{AllPairs-from_increasing}
 use Rattle.std.specs.List.Sorted.{IsStrictlyIncreasing}
-use Rattle.sg_classes.proofs.EntryLemmas.{first-least}
+use Rattle.sg_defs.proofs.MinimalLemmas.{first-least}
 use Rattle.sg_classes.proofs.GeneratorLemmas.{contains-place, place-contains, push_cases}
 use Rattle.sg_small.specs.Sets.{IsInSmall, IsOutside}
 use Rattle.sg_small.specs.Small.{AreSmallElements, IsComplement}

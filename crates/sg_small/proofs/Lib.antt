@@ -1,7 +1,7 @@
 pub mod ComplementLemmas
 pub mod FundamentalLemmas
 pub mod LeastLemmas
-pub mod ListingLemmas
+pub mod ListedLemmas
 pub mod ModularLemmas
 pub mod SmallLemmas
 pub mod TrimLemmas

@@ -14,7 +14,8 @@ use Rattle.std.specs.Global.{Global}
 use Rattle.sg_value.specs.Data.{semigroups, ideals}
 use Rattle.sg_value.specs.Plain.{AreDistinct, RelativeIdeal, thing_at, nothing}
 use Rattle.sg_value.specs.Known.{named}
-use Rattle.sg_store.specs.Fit.{IsStored, IsStoredIdeal}
+use Rattle.sg_lawful.specs.Lawful.{IsLawfulList}
+use Rattle.sg_store.specs.Fit.{IsLawfulRelative}
 use Rattle.sg_store.specs.Held.{same_key, same_ideal_key, lists_of, list_at, ideal_of, ideals_of, known_by, AreTables, AreNumbers, AllFit, IsFitKey, AllIdealsFit}
 use Rattle.sg_store.specs.Interned.{Keeps, IsInterned, IsIdealInterned, with_semigroup, with_ideal}
 use Rattle.sg_store.specs.Keyed.{IsKeyOf}
@@ -72,7 +73,7 @@ ideals_fit-grows old new grows keys all i k at =
     let fit = all i k at in
     record {
       ambient = ap is_some (grows k.ambient (list_at old k.ambient) (list_at-some old k.ambient fit.ambient));
-      fit = subst IsStoredIdeal (sym (ideal_of-grows old new grows k fit)) fit.fit;
+      fit = subst IsLawfulRelative (sym (ideal_of-grows old new grows k fit)) fit.fit;
     }
 
 -- ---- distinct things
@@ -104,14 +105,14 @@ module _ (keys : List Key) (k : Key) (ideal_keys : List IdealKey) where
   pub lists_grow : Grows (lists_of keys) (lists_of (insert_key same_key keys k))
   lists_grow = kept same_key keys k (λ (x : Key). x.list)
 
-  pub fit_inserted : AllFit keys → IsStored k.list → AllFit (insert_key same_key keys k)
+  pub fit_inserted : AllFit keys → IsLawfulList k.list → AllFit (insert_key same_key keys k)
   fit_inserted all fit i gens h =
       let at = key_at (λ (x : Key). x.list) (insert_key same_key keys k) i gens h in
       by at.0 (old_or_inserted same_key keys k i at.0 at.1) at.2
     where
-      by : (x : Key) → (slice_get keys i ≡ Some x) ⊎ (k ≡ x) → x.list ≡ gens → IsStored gens
+      by : (x : Key) → (slice_get keys i ≡ Some x) ⊎ (k ≡ x) → x.list ≡ gens → IsLawfulList gens
       by x (inl h) e = all i gens (thing_of_key (λ (y : Key). y.list) keys i x h ∙ ap Some e)
-      by x (inr h) e = subst IsStored (ap (λ (y : Key). y.list) h ∙ e) fit
+      by x (inr h) e = subst IsLawfulList (ap (λ (y : Key). y.list) h ∙ e) fit
 
   module _ (ideals_fit : AllIdealsFit (lists_of keys) ideal_keys) where
     same_ideals : ideals_of (lists_of (insert_key same_key keys k)) ideal_keys ≡ ideals_of (lists_of keys) ideal_keys
@@ -194,7 +195,7 @@ key_of keys ideal_keys id k at fit =
     record {
       ambient = list_at-some (lists_of keys) k.ambient fit.ambient ∙ ap (λ (i : RelativeIdeal). Some i.ambient) (sym is);
       generators = ap (λ (i : RelativeIdeal). i.generators) (sym is);
-      fit = subst IsStoredIdeal (sym is) fit.fit;
+      fit = subst IsLawfulRelative (sym is) fit.fit;
     }
 
 -- ---- what is kept of ids stays theirs as lists come in

@@ -10,7 +10,8 @@ use Rattle.sg_defs.specs.Listings.{ListsIntegers}
 use Rattle.sg_value.specs.Plain.{RelativeIdeal}
 use Rattle.sg_value.specs.Known.{Known}
 use Rattle.indexmap.specs.IndexSet.{IndexSet, IsUnique}
-use Rattle.sg_store.specs.Fit.{IsStored, IsStoredIdeal}
+use Rattle.sg_lawful.specs.Lawful.{IsLawfulList}
+use Rattle.sg_store.specs.Fit.{IsLawfulRelative}
 use Rattle.sg_store.specs.declared.key.Key.{Key}
 use Rattle.sg_store.specs.declared.key.IdealKey.{IdealKey}
 
@@ -52,12 +53,12 @@ AreNumbers lists kept =
 
 -- each list is fit
 abbrev pub AllFit : List Key → Type 0
-AllFit keys = (i : ℕ) (gens : List ℕ) → slice_get (lists_of keys) i ≡ Some gens → IsStored gens
+AllFit keys = (i : ℕ) (gens : List ℕ) → slice_get (lists_of keys) i ≡ Some gens → IsLawfulList gens
 
 -- the semigroup of each ideal is known, and its generators are fit
 pub record IsFitKey (lists : List (List ℕ)) (k : IdealKey) : Type 0 where
   pub ambient : IsSome (slice_get lists k.ambient)
-  pub fit : IsStoredIdeal (ideal_of lists k)
+  pub fit : IsLawfulRelative (ideal_of lists k)
 
 abbrev pub AllIdealsFit : List (List ℕ) → List IdealKey → Type 0
 AllIdealsFit lists keys = (i : ℕ) (k : IdealKey) → slice_get keys i ≡ Some k → IsFitKey lists k

@@ -3,7 +3,7 @@ use Rattle.std.specs.Prelude.{◌≡◌, ℕ, ℤ, List, Some, slice_get}
 use Rattle.sg_value.specs.Data.{ideals}
 use Rattle.sg_value.specs.Plain.{RelativeIdeal, thing_at}
 use Rattle.sg_value.specs.Known.{Known, named}
-use Rattle.sg_store.specs.Fit.{IsStoredIdeal}
+use Rattle.sg_store.specs.Fit.{IsLawfulRelative}
 use Rattle.sg_store.specs.Held.{list_at}
 use Rattle.sg_store.specs.declared.key.IdealKey.{IdealKey}
 
@@ -15,4 +15,4 @@ ideal_over known ambient gens = record { ambient = list_at known.semigroups ambi
 pub record IsKeyOf (known : Known) (id : ℕ) (k : IdealKey) : Type 0 where
   pub ambient : slice_get known.semigroups k.ambient ≡ Some (thing_at (named known) ideals id).ambient
   pub generators : k.list ≡ (thing_at (named known) ideals id).generators
-  pub fit : IsStoredIdeal (thing_at (named known) ideals id)
+  pub fit : IsLawfulRelative (thing_at (named known) ideals id)

@@ -3,7 +3,8 @@
 ghost use Rattle.std.specs.Prelude.{◌≡◌, ℕ, List, [], slice_get, Some, IsSome, IfOk, OnErr, IsTrue, ◌↔◌};
 ghost use Rattle.sg_defs.specs.Invariants.{IsPseudoFrobenius};
 ghost use Rattle.sg_defs.specs.Listings.{ListsIntegers};
-ghost use Rattle.sg_store.specs.Fit.{IsStored, IsStoredIdeal};
+ghost use Rattle.sg_lawful.specs.Lawful.{IsLawfulList};
+ghost use Rattle.sg_store.specs.Fit.{IsLawfulRelative};
 ghost use Rattle.sg_store.specs.Interned.{IsInterned, IsIdealInterned};
 ghost use Rattle.sg_value.specs.Data.{ideals};
 ghost use Rattle.sg_value.specs.Plain.{AreDistinct, AllKnown, plain, thing_at, IsAmbientOf, AreGeneratorsOf};
@@ -58,7 +59,7 @@ impl Store {
 
     /// The id of a minimal list: the old one where the list is known.
     pub fn intern(&mut self, gens: Nats) -> Result<SemId, AllocError>
-        requires { IsStored gens }
+        requires { IsLawfulList gens }
         ensures interned { IfOk result (λ id. IsInterned self.old self.new gens id) }
         ensures err { OnErr result (self.new ≡ self.old) }
     {
@@ -69,7 +70,7 @@ impl Store {
     /// The id of an ideal of a known semigroup: the old one where the semigroup and the minimal list are known.
     pub fn intern_ideal(&mut self, ambient: SemId, gens: Ints) -> Result<IdealId, AllocError>
         requires known { IsSome (slice_get self.old.semigroups ambient) }
-        requires fit { IsStoredIdeal (ideal_over self.old ambient gens) }
+        requires fit { IsLawfulRelative (ideal_over self.old ambient gens) }
         ensures interned { IfOk result (λ id. IsIdealInterned self.old self.new (ideal_over self.old ambient gens) id) }
         ensures err { OnErr result (self.new ≡ self.old) }
     {
@@ -96,7 +97,7 @@ impl Store {
     pub fn ambient(&self, id: IdealId) -> SemId
         requires { IsSome (slice_get self.now.ideals id) }
         ensures known { IsAmbientOf (named self.now) id result }
-        ensures fit { IsStoredIdeal (thing_at (named self.now) ideals id) }
+        ensures fit { IsLawfulRelative (thing_at (named self.now) ideals id) }
     {
         self.ideal_key(id).ambient
     }
@@ -105,7 +106,7 @@ impl Store {
     pub fn ideal_generators(&self, id: IdealId) -> &Ints
         requires { IsSome (slice_get self.now.ideals id) }
         ensures list { AreGeneratorsOf (named self.now) id result.now }
-        ensures fit { IsStoredIdeal (thing_at (named self.now) ideals id) }
+        ensures fit { IsLawfulRelative (thing_at (named self.now) ideals id) }
     {
         &self.ideal_key(id).list
     }
@@ -114,7 +115,7 @@ impl Store {
     pub fn generators(&self, id: SemId) -> &Nats
         requires { IsSome (slice_get self.now.semigroups id) }
         ensures list { slice_get self.now.semigroups id ≡ Some result.now }
-        ensures fit { IsStored result.now }
+        ensures fit { IsLawfulList result.now }
         ensures distinct { AreDistinct (named self.now) }
     {
         let Some(key) = self.keys.get_index(id.index()) else {

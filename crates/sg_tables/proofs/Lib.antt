@@ -1,5 +1,10 @@
+pub mod CircleLemmas
 pub mod ClosedLemmas
+pub mod CoverLemmas
+pub mod FrontLemmas
 pub mod HalfLemmas
+pub mod KnownLemmas
+pub mod ModulusLemmas
 pub mod PartLemmas
 pub mod RelaxationLemmas
 pub mod SettledLemmas

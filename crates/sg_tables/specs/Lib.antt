@@ -1,4 +1,7 @@
+pub mod Circles
 pub mod Closed
+pub mod Few
 pub mod Minimal
+pub mod Modulus
 pub mod Relaxation
 pub mod Sums

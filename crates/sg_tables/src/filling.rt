@@ -1,21 +1,27 @@
-//! The Apery list of given generators.
+//! The Apery list and the minimal generators of given numbers.
 
-ghost use Rattle.std.specs.Prelude.{◌≡◌, ◌<◌, ◌≤◌, length, vec_len, EachIndex, slice_index, IfOk};
-ghost use Rattle.sg_defs.specs.Membership.{IsNumericalSemigroup, IsMember};
+ghost use Rattle.std.specs.Prelude.{◌≡◌, ◌<◌, ◌≤◌, length, vec_len, EachIndex, slice_index, IfOk, OnOk};
+ghost use Rattle.std.specs.List.Sorted.{IsStrictlyIncreasing};
+ghost use Rattle.sg_defs.specs.Membership.{IsNumericalSemigroup, IsMember, Generates};
 ghost use Rattle.sg_classes.specs.Entries.{AreSmall};
 ghost use Rattle.sg_classes.specs.Table.{IsTable};
 
+use crate::few::take_all;
+use crate::minimal::minimal_part;
 use crate::relaxation::{UNREACHED, relax_fully};
 use sg_classes::MULTIPLICITY_LIMIT;
+use sg_nat::Nats;
 use std::alloc::{AllocError, Global};
 
-/// Makes an empty table the Apery list modulo its length.
+/// So many generators are followed round one by one.
+const FEW: usize = 20;
+
+/// Makes a table without members the Apery list modulo its length.
 fn fill(table: &mut [u64], generators: &[u64])
     requires semigroup { IsNumericalSemigroup generators.now }
     requires small { AreSmall generators.now }
-    requires not_empty { 0 < length table.old }
+    requires long { length table.old ≡ slice_index generators.now 0 }
     requires short { length table.old ≤ MULTIPLICITY_LIMIT }
-    requires modulus { IsMember generators.now (length table.old) }
     requires unreached { EachIndex table.old (λ k. slice_index table.old k ≡ UNREACHED) }
     ensures { IsTable generators.now table.new }
 {
@@ -23,17 +29,67 @@ fn fill(table: &mut [u64], generators: &[u64])
     relax_fully(table, generators);
 }
 
-/// The least member in each residue class modulo a member.
-pub fn apery_list(alloc: Global, generators: &[u64], modulus: u64) -> Result<Vec<u64>, AllocError>
+/// Makes a table without members the Apery list of ascending generators modulo the least of them, and lists those that
+/// are minimal.
+fn fill_and_list(
+    alloc: Global,
+    table: &mut [u64],
+    minimal: &mut Nats,
+    generators: &[u64],
+) -> Result<(), AllocError>
+    requires ascending { IsStrictlyIncreasing generators.now }
     requires semigroup { IsNumericalSemigroup generators.now }
     requires small { AreSmall generators.now }
-    requires positive { 0 < modulus }
-    requires short { modulus ≤ MULTIPLICITY_LIMIT }
-    requires modulus { IsMember generators.now modulus }
-    ensures table { IfOk result (λ t. IsTable generators.now t.items) }
-    ensures length { IfOk result (λ t. vec_len t ≡ modulus) }
+    requires long { length table.old ≡ slice_index generators.now 0 }
+    requires short { length table.old ≤ MULTIPLICITY_LIMIT }
+    requires unreached { EachIndex table.old (λ k. slice_index table.old k ≡ UNREACHED) }
+    requires empty { length minimal.old ≡ 0 }
+    ensures table { OnOk result (IsTable generators.now table.new) }
+    ensures minimal { OnOk result (Generates (IsMember generators.now) minimal.new) }
 {
-    let mut table = vec![in alloc; UNREACHED; modulus as usize]?;
+    if generators.len() <= FEW {
+        return take_all(table, minimal, generators);
+    }
+    fill(table, generators);
+    *minimal = minimal_part(alloc, table, generators)?;
+    Ok(())
+}
+
+/// The least member in each residue class modulo the least of ascending generators. Those that are minimal are put into
+/// a list that was empty.
+pub fn apery_list(
+    alloc: Global,
+    generators: &[u64],
+    minimal: &mut Nats,
+) -> Result<Vec<u64>, AllocError>
+    requires ascending { IsStrictlyIncreasing generators.now }
+    requires semigroup { IsNumericalSemigroup generators.now }
+    requires small { AreSmall generators.now }
+    requires short { slice_index generators.now 0 ≤ MULTIPLICITY_LIMIT }
+    requires empty { length minimal.old ≡ 0 }
+    ensures table { IfOk result (λ t. IsTable generators.now t.items) }
+    ensures length { IfOk result (λ t. vec_len t ≡ slice_index generators.now 0) }
+    ensures minimal { OnOk result (Generates (IsMember generators.now) minimal.new) }
+{
+    let mut table = vec![in alloc; UNREACHED; generators[0] as usize]?;
+    fill_and_list(alloc, &mut table, minimal, generators)?;
+    Ok(table)
+}
+
+/// The same of generators that are known to be minimal.
+pub fn apery_list_of_minimal(alloc: Global, generators: &[u64]) -> Result<Vec<u64>, AllocError>
+    requires ascending { IsStrictlyIncreasing generators.now }
+    requires semigroup { IsNumericalSemigroup generators.now }
+    requires small { AreSmall generators.now }
+    requires short { slice_index generators.now 0 ≤ MULTIPLICITY_LIMIT }
+    ensures table { IfOk result (λ t. IsTable generators.now t.items) }
+    ensures length { IfOk result (λ t. vec_len t ≡ slice_index generators.now 0) }
+{
+    if generators.len() <= FEW {
+        let mut minimal = Nats::new(alloc);
+        return apery_list(alloc, generators, &mut minimal);
+    }
+    let mut table = vec![in alloc; UNREACHED; generators[0] as usize]?;
     fill(&mut table, generators);
     Ok(table)
 }

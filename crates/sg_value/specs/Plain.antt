@@ -1,14 +1,10 @@
 -- The plain data of a value.
+pub use Rattle.sg_defs.specs.Ideals.{RelativeIdeal}
 use Rattle.std.specs.Prelude.{◌≡◌, ℕ, ℤ, List, [], Option, Some, IsSome, unwrap_or}
 use Rattle.sg_value.specs.Data.{Kind, semigroups, ideals, Data, Items, data_map, items_map, EachThing, EachThingOfAll}
 use Rattle.sg_value.specs.declared.value.Value.{Value}
 pub use Rattle.sg_value.specs.Places.{Places, Stored, Entries}
 pub use Rattle.sg_value.specs.Contents.{contents, contents_of_all}
-
--- a relative ideal by the minimal lists of its ambient semigroup and of its own generators
-pub record RelativeIdeal : Type 0 where
-  pub ambient : List ℕ
-  pub generators : List ℤ
 
 -- a thing by what it is made of: a semigroup is its minimal list
 abbrev pub Things : Kind → Type 0

@@ -88,6 +88,7 @@ impl Window {
 
         ensures fills { (got : List ℕ) × Fills result got self.old self.new × (S.left source.old ≡ prepend_known got (S.left source.new)) }
         ensures end { result ≡ Ok Filled.End → IfSome (S.left source.new) (λ rest. rest ≡ []) }
+        ensures limit { self.new.taken ≤ SCRIPT_LIMIT }
         ensures cause { HasCause (S.faults source.old) (S.faults source.new) result }
 
         ensures begun { S.begun source.new ≡ true }

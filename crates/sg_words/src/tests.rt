@@ -30,11 +30,9 @@ fn asks(alloc: Global, words: &[&str], want: Option<Settings>) -> Result<bool, F
 fn accepted(rt: HostRuntime) -> Result<(), Fail> {
     let whole = Settings {
         budget: 1_000_000,
-        cache: 0,
-        stats: true,
         keep_going: true,
-        drill: None,
         file: Some("é"),
+        ..PLAIN
     };
     let hidden = Settings {
         file: Some("--stats"),
@@ -43,20 +41,9 @@ fn accepted(rt: HostRuntime) -> Result<(), Fail> {
     let rows: [(&[&str], Settings); 5] = [
         (&[], PLAIN),
         (&["--"], PLAIN),
-        (
-            &[
-                "--stats",
-                "--budget=1000000",
-                "é",
-                "--cache",
-                "0",
-                "--keep-going",
-                "--",
-            ],
-            whole,
-        ),
+        (&["--budget=1000000", "é", "--keep-going", "--"], whole),
         (&["--", "--stats"], hidden),
-        (&["--budget", "0000100000", "--cache=32"], PLAIN),
+        (&["--budget", "0000100000"], PLAIN),
     ];
     for (words, want) in rows {
         assert!(rt; asks(rt.alloc(), words, Some(want))?);
@@ -66,7 +53,7 @@ fn accepted(rt: HostRuntime) -> Result<(), Fail> {
 
 #[test]
 fn refused(rt: HostRuntime) -> Result<(), Fail> {
-    let rows: [&[&str]; 19] = [
+    let rows: [&[&str]; 21] = [
         &[""],
         &["-"],
         &["--", "-"],
@@ -84,6 +71,8 @@ fn refused(rt: HostRuntime) -> Result<(), Fail> {
         &["--budget", "1", "--budget=1"],
         &["--budget", "1000001"],
         &["--cache", "00000000001"],
+        &["--stats"],
+        &["--cache", "32"],
         &["--drill", "3"],
         &["--drill", "3", "f"],
     ];

@@ -1,84 +1,73 @@
 -- From what stood before the last line to how the run ends.
-use Rattle.std.proofs.Common.{◌≡◌, ℕ, List, [], ◌∷◌, ◌++◌, Option, Some, None, refl, sym, ap, subst, ◌∙◌, inl, inr, arith}
+use Rattle.std.proofs.Common.{◌≡◌, ℕ, List, [], ◌∷◌, ◌++◌, Option, Some, None, refl, sym, ap, subst, ◌∙◌, inl, inr, arith, ◌≤◌}
 use Rattle.std.specs.Prelude.{◌⊎◌, IsSome}
 use Rattle.std.specs.Io.KnownBytes.{append_known}
 use Rattle.std.proofs.lemmas.List.{append-nil}
 use Rattle.sg_io.specs.Faults.{Rose}
 use Rattle.sg_io.specs.Inputs.{Input, input_named}
 use Rattle.sg_rows.specs.declared.fault.Fault.{Fault}
-use Rattle.sg_play.specs.Record.{Played, Ending, marked, out, err, done, refused, waiting}
+use Rattle.sg_rows.specs.declared.fault.Fault.TheVariants as fault
+use Rattle.sg_play.specs.Record.{Record, Played, Ending, marked, err, done, refused, waiting}
 use Rattle.sg_play.proofs.Plays.{one-play}
 use Rattle.sgps_cli.specs.Causes.{last_line}
-use Rattle.sgps_cli.specs.Settings.{Wanted}
+use Rattle.sg_words.specs.Settings.{Wanted}
 use Rattle.sgps_cli.specs.Input.{HasInput, IsInput}
-use Rattle.sgps_cli.specs.Settled.{Settled}
+use Rattle.sgps_cli.specs.Settled.{Settled, keep_of}
 use Rattle.sgps_cli.specs.Reports.{IsReport, told, failed, no_memory, IsFrontOfLastLine}
-use Rattle.sgps_cli.specs.Ends.{Seen, Sinks, Wrote, Settles, out_bytes, err_bytes, Comes, IsEarly, telling, RunsOut, SinkFaults, FailsToWrite, Ends, Closes, closed, stopped, PlaysToEnd, EndsWell}
+use Rattle.sgps_cli.specs.Passed.{HasRefusals}
+use Rattle.sgps_cli.specs.Written.{Sinks, Wrote}
+use Rattle.sgps_cli.specs.Ends.{Seen, Settles, Comes, IsEarly, telling, RunsOut, SinkFaults, FailsToWrite, Ends, Closes, closed, stopped, PlaysToEnd, EndsWell}
 use Rattle.sgps_cli.specs.declared.ending.Cause.{Cause}
 use Rattle.sgps_cli.specs.declared.ending.Cause.TheVariants as cause
+use Rattle.sgps_cli.proofs.Written.{wrote-err, wrote-twice}
 
--- the bytes of a text that goes to `out` and of one that goes to `err`
-out-of-err : (b : List ℕ) → out_bytes (marked err b) ≡ []
-out-of-err [] = refl
-out-of-err (x ∷ b) = out-of-err b
-
-out-of-both : (a b : List ℕ) → out_bytes (marked out a ++ marked err b) ≡ a
-out-of-both [] b = out-of-err b
-out-of-both (x ∷ a) b = ap (λ r. x ∷ r) (out-of-both a b)
-
-err-of-err : (b : List ℕ) → err_bytes (marked err b) ≡ b
-err-of-err [] = refl
-err-of-err (x ∷ b) = ap (λ r. x ∷ r) (err-of-err b)
-
-err-of-both : (a b : List ℕ) → err_bytes (marked out a ++ marked err b) ≡ b
-err-of-both [] b = err-of-err b
-err-of-both (x ∷ a) b = err-of-both a b
-
--- what the two sinks gained is one record
-wrote : (old new : Sinks) (text said : List ℕ) → new.on_out ≡ append_known old.on_out text → new.on_err ≡ append_known old.on_err said → Wrote old new (marked out text ++ marked err said)
-wrote old new text said o e = record {
-  out_gained = o ∙ ap (append_known old.on_out) (sym (out-of-both text said));
-  err_gained = e ∙ ap (append_known old.on_err) (sym (err-of-both text said));
-}
+-- a record, and a text for `err` behind it
+wrote-behind : (old mid new : Sinks) (r : Record) (said : List ℕ) → Wrote old mid r → new.on_out ≡ mid.on_out → new.on_err ≡ append_known mid.on_err said → Wrote old new (r ++ marked err said)
+wrote-behind old mid new r said w o e = wrote-twice old mid new r (marked err said) w (wrote-err mid new said o e)
 
 -- nothing is a front of nothing alone
 front-of-none : (a b : List ℕ) → [] ≡ a ++ b → a ≡ []
 front-of-none [] b e = refl
 front-of-none (x ∷ a) b e = absurd (cc)
 
-module _ (seen : Seen) (old new : Sinks) (f : SinkFaults) (text said : List ℕ) (on_out : new.on_out ≡ append_known old.on_out text) (on_err : new.on_err ≡ append_known old.on_err said) where
+module _ (seen : Seen) (old new : Sinks) (f : SinkFaults) (r : Record) (said : List ℕ) (wrote : Wrote old new (r ++ marked err said)) where
   -- the line of a cause was written whole
-  told-whole : (c : Cause) → Comes c seen (marked out text) → said ≡ last_line c → Ends c seen old new f
-  told-whole cause.Ok h e = (marked out text, h, subst (λ s. Wrote old new (marked out text ++ marked err s)) e (wrote old new text said on_out on_err))
-  told-whole cause.Usage h e = (marked out text, h, subst (λ s. Wrote old new (marked out text ++ marked err s)) e (wrote old new text said on_out on_err))
-  told-whole cause.ReadFault h e = (marked out text, h, subst (λ s. Wrote old new (marked out text ++ marked err s)) e (wrote old new text said on_out on_err))
-  told-whole cause.Overlong h e = (marked out text, h, subst (λ s. Wrote old new (marked out text ++ marked err s)) e (wrote old new text said on_out on_err))
-  told-whole (cause.Script fault line) h e = (marked out text, h, subst (λ s. Wrote old new (marked out text ++ marked err s)) e (wrote old new text said on_out on_err))
-  told-whole cause.WriteFault h e = absurd h
-  told-whole cause.Memory h e = absurd h
+  written-so : (line : List ℕ) → said ≡ line → Wrote old new (r ++ marked err line)
+  written-so line e = subst (λ s. Wrote old new (r ++ marked err s)) e wrote
 
-  -- a run that had written this text and this front of a line was stopped by `err`
-  stopped-by-err : IsEarly seen text said → Rose f.err_before f.err_after → FailsToWrite seen old new f
-  stopped-by-err early rose = (inr rose, inl (text, said, early, inr rose, wrote old new text said on_out on_err))
+  told-whole : (c : Cause) → Comes c seen r → said ≡ last_line c → Ends c seen old new f
+  told-whole cause.Ok h e = (r, h, written-so [] e)
+  told-whole (cause.Refusals count line) h e = (r, h, written-so [] e)
+  told-whole cause.Usage h e = (r, h, written-so (last_line cause.Usage) e)
+  told-whole cause.ReadFault h e = (r, h, written-so (last_line cause.ReadFault) e)
+  told-whole cause.Overlong h e = (r, h, written-so (last_line cause.Overlong) e)
+  told-whole (cause.Script fault line) h e = (r, h, written-so (last_line (cause.Script fault line)) e)
+  told-whole (cause.Budget line) h e = (r, h, written-so (last_line (cause.Budget line)) e)
+  told-whole cause.WriteFault h e = absurd h.2
+  told-whole cause.Memory h e = absurd h.2
 
-  -- a run that had written this text, and no line, was stopped by a sink
-  stopped-by-out : IsEarly seen text [] → said ≡ [] → Rose f.out_before f.out_after ⊎ Rose f.err_before f.err_after → FailsToWrite seen old new f
-  stopped-by-out early none rose = (rose, inl (text, [], early, inl refl, subst (λ s. Wrote old new (marked out text ++ marked err s)) none (wrote old new text said on_out on_err)))
+  -- a run that had written this and this front of a line was stopped by `err`
+  stopped-by-err : IsEarly seen r said → Rose f.err_before f.err_after → FailsToWrite seen old new f
+  stopped-by-err early rose = (inr rose, inl (r, said, early, inr rose, wrote))
 
-  -- a run that had written this text ran out of memory, and wrote this front of that line
-  no-memory-then : IsEarly seen text [] → IsFrontOfLastLine cause.Memory said → RunsOut seen old new
-  no-memory-then early front = (text, [], said, front.0, early, front.1, wrote old new text said on_out on_err)
+  -- a run that had written this, and no line, was stopped by a sink
+  stopped-by-out : IsEarly seen r [] → said ≡ [] → Rose f.out_before f.out_after ⊎ Rose f.err_before f.err_after → FailsToWrite seen old new f
+  stopped-by-out early none rose = (rose, inl (r, [], early, inl refl, written-so [] none))
 
-  -- a run that had written this text, and this front of a line, ran out of memory
-  no-memory-there : IsEarly seen text said → RunsOut seen old new
-  no-memory-there early = (text, said, [], last_line cause.Memory, early, refl, subst (λ s. Wrote old new (marked out text ++ marked err s)) (sym (append-nil said)) (wrote old new text said on_out on_err))
+  -- a run that had written this ran out of memory, and wrote this front of that line
+  no-memory-then : IsEarly seen r [] → IsFrontOfLastLine cause.Memory said → RunsOut seen old new
+  no-memory-then early front = (r, [], said, front.0, early, front.1, wrote)
 
-  reported : (c d : Cause) → Closes c seen text → IsReport c said f.err_before f.err_after d → (c ≡ cause.WriteFault → Rose f.out_before f.out_after) → Ends d seen old new f
+  -- a run that had written this, and this front of a line, ran out of memory
+  no-memory-there : IsEarly seen r said → RunsOut seen old new
+  no-memory-there early = (r, said, [], last_line cause.Memory, early, refl, subst (λ s. Wrote old new (r ++ marked err s)) (sym (append-nil said)) wrote)
+
+  reported : (c d : Cause) → Closes c seen r → IsReport c said f.err_before f.err_after d → (c ≡ cause.WriteFault → Rose f.out_before f.out_after ⊎ Rose f.err_before f.err_after) → Ends d seen old new f
   reported c d (closed h) (told t) rose = subst (λ x. Ends x seen old new f) (sym t.same) (told-whole c h t.whole)
   reported c d (closed h) (failed e front risen) rose = subst (λ x. Ends x seen old new f) (sym e) (stopped-by-err (telling c front.0 h front.1) risen)
   reported c d (closed h) (no_memory e front) rose = subst (λ x. Ends x seen old new f) (sym e) (no-memory-there (telling c front.0 h front.1))
   reported c d (stopped (inl w) early) (told t) rose =
-      subst (λ x. Ends x seen old new f) (sym (t.same ∙ w)) (stopped-by-out early (t.whole ∙ ap last_line w) (inl (rose w)))
+      subst (λ x. Ends x seen old new f) (sym (t.same ∙ w)) (stopped-by-out early (t.whole ∙ ap last_line w) (rose w))
   reported c d (stopped (inr m) early) (told t) rose =
       subst (λ x. Ends x seen old new f) (sym (t.same ∙ m)) (no-memory-then early ([], sym (ap last_line m) ∙ sym t.whole ∙ sym (append-nil said)))
   reported c d (stopped (inl w) early) (failed e front risen) rose =
@@ -87,14 +76,31 @@ module _ (seen : Seen) (old new : Sinks) (f : SinkFaults) (text said : List ℕ)
       subst (λ x. Ends x seen old new f) (sym e) (inr risen, inr (risen, no-memory-then early (front.0, sym (ap last_line m) ∙ front.1)))
   reported c d (stopped (inl w) early) (no_memory e front) rose =
       let none = front-of-none said front.0 (sym (ap last_line w) ∙ front.1) in
-      subst (λ x. Ends x seen old new f) (sym e) (no-memory-there (subst (λ s. IsEarly seen text s) (sym none) early))
+      subst (λ x. Ends x seen old new f) (sym e) (no-memory-there (subst (λ s. IsEarly seen r s) (sym none) early))
   reported c d (stopped (inr m) early) (no_memory e front) rose =
       subst (λ x. Ends x seen old new f) (sym e) (no-memory-then early (front.0, sym (ap last_line m) ∙ front.1))
 
+-- a report counts the faults of `err` from its own beginning on
+report-from : {c : Cause} {said : List ℕ} {mid now : ℕ} {end : Cause} (before : ℕ) → before ≤ mid → IsReport c said mid now end → IsReport c said before now end
+report-from before l (told t) = told t
+report-from before l (failed e front risen) = failed e front (omega arith)
+report-from before l (no_memory e front) = no_memory e front
+
+-- a count that rose first has risen, and one that rose then
+rose-sooner : (a b c : ℕ) → b ≤ c → Rose a b → Rose a c
+rose-sooner a b c l r = omega arith
+
+-- a count that rose later rose
+pub rose-later : (a b c : ℕ) → a ≤ b → Rose b c → Rose a c
+rose-later a b c l r = omega arith
+
 -- how a run ends, whatever came of its last line
-pub run-ends : (c d : Cause) (seen : Seen) (old new : Sinks) (f : SinkFaults) (text said : List ℕ) → new.on_out ≡ append_known old.on_out text → new.on_err ≡ append_known old.on_err said →
-    Closes c seen text → IsReport c said f.err_before f.err_after d → (c ≡ cause.WriteFault → Rose f.out_before f.out_after) → Ends d seen old new f
-run-ends c d seen old new f text said o e h r rose = reported seen old new f text said o e c d h r rose
+pub run-ends : (c d : Cause) (seen : Seen) (old mid new : Sinks) (f : SinkFaults) (err_mid : ℕ) (r : Record) (said : List ℕ) → Wrote old mid r → new.on_out ≡ mid.on_out → new.on_err ≡ append_known mid.on_err said →
+    Closes c seen r → IsReport c said err_mid f.err_after d → f.err_before ≤ err_mid → err_mid ≤ f.err_after →
+    (c ≡ cause.WriteFault → Rose f.out_before f.out_after ⊎ Rose f.err_before err_mid) → Ends d seen old new f
+run-ends c d seen old mid new f err_mid r said w o e h report first then rose =
+    reported seen old new f r said (wrote-behind old mid new r said w o e) c d h (report-from f.err_before first report)
+    (λ q. elim (rose q) [ inl x ↦ inl x | inr x ↦ inr (rose-sooner f.err_before err_mid f.err_after then x) ])
 
 some-same : {A : Type 0} (o : Option A) (x y : A) → o ≡ Some x → o ≡ Some y → x ≡ y
 some-same o x y e f = let h : Some x ≡ Some y = sym e ∙ f in cc
@@ -106,13 +112,15 @@ same-bytes inputs listed name b b' tells input read =
     some-same (input_named name listed) b' b there input
 
 -- a script that is played to its end comes to nothing else
-same-play : (seen : Seen) (p : Played) (q : PlaysToEnd seen.settings seen.inputs) → Settles seen p → p.ending ≡ done
+same-play : (seen : Seen) (p : Played) (q : PlaysToEnd seen.settings seen.inputs) → Settles seen p → p ≡ q.play
 same-play seen p q s =
     let wanted : s.1.wanted ≡ q.wanted = some-same seen.settings _ _ s.1.accepted q.accepted in
     let read : IsInput seen.inputs q.wanted.file s.0 = subst (λ w. IsInput seen.inputs w.file s.0) wanted s.1.input in
     let bytes : s.0 ≡ q.bytes = same-bytes seen.inputs q.listed q.wanted.file q.bytes s.0 q.told q.input read in
-    let play : p ≡ q.play = one-play (subst (λ b. Settled b p) bytes s.2) q.settled in
-    ap (λ x. x.ending) play ∙ q.ends
+    one-play (keep_of q.wanted) (subst (λ b. Settled b (keep_of q.wanted) p) bytes (subst (λ w. Settled s.0 (keep_of w) p) wanted s.2)) q.settled
+
+same-end : (seen : Seen) (p : Played) (q : PlaysToEnd seen.settings seen.inputs) → Settles seen p → p.ending ≡ done
+same-end seen p q s = ap (λ x. x.ending) (same-play seen p q s) ∙ q.ends
 
 none-accepted : {P : Type 0} (settings : Option Wanted) (w : Wanted) → settings ≡ None → settings ≡ Some w → P
 none-accepted settings w e f = absurd (let h : None ≡ Some w = sym e ∙ f in cc)
@@ -123,16 +131,18 @@ refused-not-done f line e h k = absurd (let x : refused f line ≡ done = sym h 
 waiting-not-done : {P : Type 0} (e : Ending) → e ≡ waiting → e ≡ done → P
 waiting-not-done e h k = absurd (let x : waiting ≡ done = sym h ∙ k in cc)
 
--- a script that is played to its end ends Ok, or for want of memory, where nothing failed
-pub ends-well : (c : Cause) (seen : Seen) (old new : Sinks) (f : SinkFaults) → Ends c seen old new f → PlaysToEnd seen.settings seen.inputs →
-    (Rose seen.faults_before seen.faults_after → ⊥) → (Rose f.out_before f.out_after → ⊥) → (Rose f.err_before f.err_after → ⊥) → EndsWell c
-ends-well cause.Ok seen old new f h q s o e = inl refl
+-- a script that is played to its end ends Ok, as Refusals, or for want of memory, where nothing failed
+pub ends-well : (c : Cause) (seen : Seen) (old new : Sinks) (f : SinkFaults) → Ends c seen old new f → (q : PlaysToEnd seen.settings seen.inputs) →
+    (Rose seen.faults_before seen.faults_after → ⊥) → (Rose f.out_before f.out_after → ⊥) → (Rose f.err_before f.err_after → ⊥) → EndsWell c q.play.refusals
+ends-well cause.Ok seen old new f h q s o e = let p = h.1 in sym (ap (λ x. x.refusals) (same-play seen p.0 q p.1)) ∙ p.2.1
+ends-well (cause.Refusals count line) seen old new f h q s o e = let p = h.1 in subst (λ x. HasRefusals x.refusals count line) (same-play seen p.0 q p.1) p.2.1
 ends-well cause.Usage seen old new f h q s o e = none-accepted seen.settings q.wanted h.1.0 q.accepted
 ends-well cause.ReadFault seen old new f h q s o e = absurd (s h.1.0)
-ends-well cause.Overlong seen old new f h q s o e = let p = h.1 in waiting-not-done p.0.ending p.2 (same-play seen p.0 q p.1)
-ends-well (cause.Script fault line) seen old new f h q s o e = let p = h.1 in refused-not-done fault line p.0.ending p.2 (same-play seen p.0 q p.1)
+ends-well cause.Overlong seen old new f h q s o e = let p = h.1 in waiting-not-done p.0.ending p.2 (same-end seen p.0 q p.1)
+ends-well (cause.Script f' line) seen old new f h q s o e = let p = h.1 in refused-not-done f' line p.0.ending p.2.0 (same-end seen p.0 q p.1)
+ends-well (cause.Budget line) seen old new f h q s o e = let p = h.1 in refused-not-done fault.Budget line p.0.ending p.2 (same-end seen p.0 q p.1)
 ends-well cause.WriteFault seen old new f h q s o e = elim h.0 [ inl r ↦ absurd (o r) | inr r ↦ absurd (e r) ]
-ends-well cause.Memory seen old new f h q s o e = inr refl
+ends-well cause.Memory seen old new f h q s o e = tt
 
 -- the input is there where it is told
 pub input-there : (settings : Option Wanted) (inputs : Option (List Input)) → PlaysToEnd settings inputs → HasInput settings inputs

@@ -1,8 +1,12 @@
-pub mod Taken
-pub mod Turning
-pub mod Executing
+pub mod Written
 pub mod Lines
-pub mod Concluding
+pub mod Counting
+pub mod Acting
+pub mod Playing
+pub mod Turning
+pub mod Reading
+pub mod Measured
 pub mod Settling
-pub mod Reaching
+pub mod Beginning
+pub mod Closing
 pub mod Endings

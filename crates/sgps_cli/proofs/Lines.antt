@@ -2,7 +2,7 @@
 use Rattle.std.proofs.Common.{◌≡◌, ℕ, List, ◌++◌, Option, sym, ap, ◌∙◌, append_assoc}
 use Rattle.std.specs.Io.KnownBytes.{append_known}
 use Rattle.sg_io.specs.Faults.{AppendsFront}
-use Rattle.sgps_cli.proofs.Turning.{written-twice}
+use Rattle.sgps_cli.proofs.Written.{written-twice}
 
 -- a front of the first part is one of the whole
 pub front-more : (old new : Option (List ℕ)) (a b : List ℕ) → AppendsFront old new a → AppendsFront old new (a ++ b)

@@ -1,97 +1,247 @@
--- A play, turn by turn.
-use Rattle.std.proofs.Common.{◌≡◌, ℕ, ◌+◌, ◌≤◌, List, [], ◌++◌, take, drop, Bool, Result, Ok, Err, Option, Some, None, refl, sym, ap, subst, ◌∙◌, append_assoc, length, arith}
-use Rattle.std.specs.Prelude.{◌==◌, IsErr}
+-- One turn of a play.
+use Rattle.std.proofs.Common.{◌≡◌, ℕ, ◌+◌, ◌<◌, ◌≤◌, List, [], ◌∷◌, ◌++◌, take, drop, length, Bool, true, false, Option, Some, None, refl, sym, ap, subst, ◌∙◌, inl, inr, arith, length-append, length-drop}
+use Rattle.std.specs.Prelude.{◌⊎◌, slice_range, IfSome}
+use Rattle.std.specs.Io.KnownBytes.{prepend_known}
 use Rattle.std.proofs.lemmas.List.{append-nil}
-use Rattle.std.proofs.lemmas.List.Sums.{count_by-le-length}
-use Rattle.std.specs.Io.KnownBytes.{append_known}
-use Rattle.sg_cut.specs.declared.limits.TheConstants.{SCRIPT_LIMIT}
-use Rattle.sg_cut.specs.Lines.{count_of_line_feeds}
-use Rattle.sg_tree.specs.Tree.{Code}
-use Rattle.sg_script.specs.Outcome.{a_tree}
-use Rattle.sg_eval.specs.Vars.{Vars}
-use Rattle.sg_eval.specs.Process.{Runs}
-use Rattle.sg_eval.specs.Statements.{on, whole as meaning}
-use Rattle.sg_play.specs.Record.{Played, Record, marked, out, after_text}
-use Rattle.sg_play.specs.Play.{PlaysFrom, Play, next}
-use Rattle.sg_play.specs.Left.{IsFirstStatement, LeftFrom, IsLeft, behind}
-use Rattle.sg_play.proofs.Leaving.{marked-append}
-use Rattle.sgps_cli.specs.declared.play.Verdict.{Verdict}
+use Rattle.sg_cut.specs.declared.limits.TheConstants.{SCRIPT_LIMIT, STATEMENT_LIMIT}
+use Rattle.sg_cut.specs.Cut.{StandsAt, IsAtEnd, IsUnfinished, IsTooLong}
+use Rattle.sg_cut.specs.Cut as bytes
+use Rattle.sg_cut.specs.Lines.{line_of, count_of_line_feeds}
+use Rattle.sg_cut.specs.declared.outcome.Piece.TheVariants as piece
+use Rattle.sg_rows.specs.declared.fault.Fault.{Fault}
+use Rattle.sg_rows.specs.declared.fault.Fault.TheVariants as fault
+use Rattle.sg_script.specs.Outcome.{a_tree, IsReadAs}
+use Rattle.sg_meaning.specs.Vars.{Vars}
+use Rattle.sg_play.specs.Record.{Played, Record, Refusal, Ending, done, refused, waiting, after}
+use Rattle.sg_play.specs.Play as play
+use Rattle.sg_play.specs.Play.{Performs, Takes, PlaysFrom, Play, last}
+use Rattle.sg_play.specs.Left.{LeftFrom, before, inside, telling}
+use Rattle.sg_window.specs.Window.{State, Holds, fresh}
+use Rattle.sg_window.specs.Finds.{FindsStatement, WantsMore, BeginsAt}
+use Rattle.sg_window.proofs.Holding.{holds-append, holds_at_once}
+use Rattle.sgps_cli.specs.Passed.{AreCounted, end_of, refusal_of}
+use Rattle.sgps_cli.specs.Written.{Sinks, Wrote}
+use Rattle.sgps_cli.specs.Ends.{IsCauseOf}
+use Rattle.sgps_cli.specs.Playing.{Acts, IsPart, ComesTo, EndsAt, IsAt, Begun, IsReached, Comes, Concludes, Turns, ReadsMore}
+use Rattle.sgps_cli.specs.Playing.{Acts as acts}
+use Rattle.sgps_cli.specs.Playing.{IsPart as part}
+use Rattle.sgps_cli.specs.Playing.{Comes as comes}
+use Rattle.sgps_cli.specs.Playing.{ReadsMore as reads}
+use Rattle.sgps_cli.specs.declared.passed.Passed.{Passed}
 use Rattle.sgps_cli.specs.declared.play.Turn.{Turn}
 use Rattle.sgps_cli.specs.declared.play.Turn.TheVariants as turn
-use Rattle.sgps_cli.specs.declared.play.Stopped.{Stopped}
-use Rattle.sgps_cli.specs.Playing.{IsOutcome, Plays, Turns}
+use Rattle.sgps_cli.specs.declared.ending.Cause.{Cause}
+use Rattle.sgps_cli.specs.declared.ending.Cause.TheVariants as cause
+use Rattle.sgps_cli.proofs.Written.{wrote-none, wrote-twice, prepend-none, prepend-twice}
+use Rattle.sgps_cli.proofs.Counting.{counted-length, counted-more, fresh-few, ends-cause, ends-ended}
+use Rattle.sgps_cli.proofs.Playing.{at-first, at-read, at-behind, plays-out, left-out}
 
--- nothing was written
-pub unchanged : (o : Option (List ℕ)) → o ≡ append_known o []
-unchanged None = refl
-unchanged (Some xs) = ap Some (sym (append-nil xs))
-
-append-twice : (o : Option (List ℕ)) (a b : List ℕ) → append_known (append_known o a) b ≡ append_known o (a ++ b)
-append-twice None a b = refl
-append-twice (Some xs) a b = ap Some (append_assoc xs a b)
-
--- texts written one after another
-pub written-twice : (old mid new : Option (List ℕ)) (a b : List ℕ) → mid ≡ append_known old a → new ≡ append_known mid b → new ≡ append_known old (a ++ b)
-written-twice old mid new a b e f = f ∙ ap (λ o. append_known o b) e ∙ append-twice old a b
-
--- a script was played up to this rest: however the rest is played, or left, so is the whole
-pub record IsPlayedTo (whole : Bool) (script rest : List ℕ) (feeds : ℕ) (vars : Vars) (gained : List ℕ) : Type 0 where
-  pub passed : ℕ
-  pub onward : (p : Played) → PlaysFrom whole rest passed feeds vars p → Play script whole (after_text gained p)
-  pub left : (text : List ℕ) → LeftFrom rest vars text → IsLeft script (gained ++ text)
-
--- at the beginning nothing was played
-pub played-none : (whole : Bool) (script : List ℕ) → IsPlayedTo whole script script 0 [] []
-played-none whole script = record { passed = 0; onward = λ p d. d; left = λ text l. l }
-
-after-twice : (a b : List ℕ) (p : Played) → after_text a (after_text b p) ≡ after_text (a ++ b) p
-after-twice a b p =
-    let e : marked out a ++ (marked out b ++ p.written) ≡ marked out (a ++ b) ++ p.written =
-    sym (append_assoc (marked out a) (marked out b) p.written) ∙ ap (λ x. x ++ p.written) (sym (marked-append out a b)) in
-    ap (λ (w : Record). record { written = w; ending = p.ending; place = p.place }) e
-
--- one more statement was executed
-pub played-on : {whole : Bool} {script rest : List ℕ} {feeds : ℕ} {vars vars' : Vars} {gained : List ℕ} (begin end : ℕ) (c : Code) (text : List ℕ) → IsPlayedTo whole script rest feeds vars gained →
-    IsFirstStatement rest begin end c → Runs (meaning c) vars (Ok on) vars' text → IsPlayedTo whole script (drop end rest) (feeds + count_of_line_feeds (take end rest)) vars' (gained ++ text)
-played-on {whole} {script} {rest} {feeds} {vars} {vars'} {gained} begin end c text d f r = record {
-  passed = d.passed + end;
-  onward = λ p q. subst (Play script whole) (after-twice gained text p) (d.onward (after_text text p) (next begin end text vars' f.stands (a_tree c, f.reads, (Ok on, vars', text, r, refl)) q));
-  left = λ t l. subst (IsLeft script) (sym (append_assoc gained text t)) (d.left (text ++ t) (behind begin end c vars' text f r l));
+-- before anything was read
+pub reached-first : (b : Begun) → IsReached b fresh [] (record { count = 0; line = 0 }) b.all b.sinks
+reached-first b = record {
+  bytes = [];
+  held = [];
+  feeds = 0;
+  refusals = [];
+  written = [];
+  holds = holds_at_once [] 0 fresh refl refl;
+  taken = refl;
+  within = omega arith;
+  told = sym (prepend-none b.all);
+  wrote = wrote-none b.sinks;
+  so_far = at-first b.keep;
+  passes = inl (refl, refl);
+  few = omega arith;
+  at_end = λ e. absurd cc;
 }
 
--- the rest came to its end, and so did the whole
-pub played-end : {whole : Bool} {script rest : List ℕ} {feeds : ℕ} {vars : Vars} {gained : List ℕ} (v : Verdict) (text : List ℕ) → IsPlayedTo whole script rest feeds vars gained →
-    ((passed : ℕ) → (p : Played) × PlaysFrom whole rest passed feeds vars p × IsOutcome v text p) → (p : Played) × Play script whole p × IsOutcome v (gained ++ text) p
-played-end {gained = gained} v text d h =
-    let e = h d.passed in (
-      after_text gained e.0,
-      d.onward e.0 e.1,
-      record { ends = e.2.ends; wrote = ap (λ x. marked out gained ++ x) e.2.wrote ∙ sym (marked-append out gained text) },
-    )
+-- the same, with a window and variables that are so
+pub reached-at-first : (b : Begun) (w : State) (vars : Vars) → w ≡ fresh → vars ≡ [] → IsReached b w vars (record { count = 0; line = 0 }) b.all b.sinks
+reached-at-first b w vars e f =
+    subst (λ x. IsReached b x vars (record { count = 0; line = 0 }) b.all b.sinks) (sym e) (subst (λ v. IsReached b fresh v (record { count = 0; line = 0 }) b.all b.sinks) (sym f) (reached-first b))
 
-module _ (whole : Bool) (script rest : List ℕ) (feeds : ℕ) (vars vars' : Vars) (gained text : List ℕ) where
-  -- a turn that goes on leads to what is behind the statement
-  pub goes-on : (r : Result Turn Stopped) (end n : ℕ) (passed later : List ℕ) → r ≡ Ok (turn.Goes end) → Turns r rest whole feeds vars vars' text → IsPlayedTo whole script rest feeds vars gained →
-      passed ≡ take end rest → later ≡ drop end rest → n ≡ count_of_line_feeds passed → IsPlayedTo whole script later (feeds + n) vars' (gained ++ text)
-  goes-on r end n passed later e h d p a counted =
-      let k : Turns (Ok (turn.Goes end)) rest whole feeds vars vars' text = subst (λ x. Turns x rest whole feeds vars vars' text) e h in
-      subst (λ xs. IsPlayedTo whole script xs (feeds + n) vars' (gained ++ text)) (sym a)
-      (subst (λ m. IsPlayedTo whole script (drop end rest) (feeds + m) vars' (gained ++ text)) (sym (counted ∙ ap count_of_line_feeds p)) (played-on k.0 end k.1 text d k.2 k.3))
+-- nothing was played for want of memory
+pub without-window : (b : Begun) → Concludes cause.Memory b b.all b.sinks
+without-window b = record {
+  bytes = [];
+  written = [];
+  within = omega arith;
+  told = sym (prepend-none b.all);
+  wrote = wrote-none b.sinks;
+  comes = comes.broken (inr refl) before;
+}
 
-  -- a turn that ends the play ends the whole
-  pub stops-so : (r : Result Turn Stopped) (v : Verdict) → r ≡ Ok (turn.Stops v) → Turns r rest whole feeds vars vars' text → IsPlayedTo whole script rest feeds vars gained → Plays (Ok v) script whole (gained ++ text)
-  stops-so r v e h d = played-end v text d (subst (λ x. Turns x rest whole feeds vars vars' text) e h)
+-- what a statement comes to where it stands
+takes-there : (keep : Bool) (held text : List ℕ) (line : ℕ) (vars : Vars) (begin end passed feeds : ℕ) (t : ℕ → play.Turn) → text ≡ slice_range held begin end → line ≡ feeds + line_of held begin →
+    ComesTo keep text line vars t → Takes keep (piece.Statement begin end) held passed feeds vars (t (passed + begin))
+takes-there keep held text line vars begin end passed feeds t is line_is c = (
+  c.0,
+  subst (λ x. IsReadAs x c.0) is c.1,
+  subst (λ l. Performs keep c.0 vars (passed + begin) l (t (passed + begin))) line_is (c.2 (passed + begin)),
+)
 
-  -- a turn that was left leaves the whole
-  pub left-so : (r : Result Turn Stopped) (s : Stopped) → r ≡ Err s → Turns r rest whole feeds vars vars' text → IsPlayedTo whole script rest feeds vars gained → IsLeft script (gained ++ text)
-  left-so r s e h d = d.left text (subst (λ x. Turns x rest whole feeds vars vars' text) e h)
+-- a part of what a statement writes, where it stands
+part-there : {keep : Bool} {held text : List ℕ} {line : ℕ} {vars : Vars} {s : Record} (begin end passed feeds : ℕ) → text ≡ slice_range held begin end → line ≡ feeds + line_of held begin →
+    StandsAt held begin end → IsPart keep text line vars s → LeftFrom keep held passed feeds vars s
+part-there begin end passed feeds is line_is stands part.nothing = before
+part-there begin end passed feeds is line_is stands (part.inside c vars' printed read broken) =
+    inside begin end c vars' printed (record { stands = stands; reads = subst (λ x. IsReadAs x (a_tree c)) is read }) broken
+part-there {keep} {held} {text} {line} {vars} begin end passed feeds is line_is stands (part.telling written refusals vars' c front) =
+    telling end vars' written (record { begin = begin; refusals = refusals; stands = stands; takes = takes-there keep held text line vars begin end passed feeds (λ place. play.goes written refusals vars') is line_is c }) front
 
--- the line feeds so far are no more than the bytes so far
-pub feeds-fit : (feeds end n : ℕ) (rest passed later : List ℕ) → feeds + length rest ≤ SCRIPT_LIMIT → length passed ≡ end → length later + end ≡ length rest → n ≡ count_of_line_feeds passed →
-    feeds + n + length later ≤ SCRIPT_LIMIT
-feeds-fit feeds end n rest passed later fits front back counted = omega (arith, count_by-le-length (λ b. b == 10) passed)
+open-ended : (b : Bool) → b ≡ false → b ≡ true → ⊥
+open-ended b e f = let h : false ≡ true = sym e ∙ f in cc
 
--- a play that gave no verdict was left
-pub left-result : (r : Result Verdict Stopped) (script : List ℕ) (whole : Bool) (text : List ℕ) → IsErr r → IsLeft script text → Plays r script whole text
-left-result (Ok v) script whole text e h = absurd (cc)
-left-result (Err s) script whole text e h = h
+some-same : (a b : ℕ) → Some a ≡ Some b → a ≡ b
+some-same a b e = cc
+
+module _ {b : Begun} {w : State} {vars : Vars} {passed : Passed} {rest : Option (List ℕ)} {now : Sinks} (r : IsReached b w vars passed rest now) where
+  -- what stands first in what is held ends the play
+  ends-early : (c : Cause) (p : Played) (s : Record) (after' : Sinks) → Wrote now after' s → PlaysFrom b.keep false r.held r.so_far.passed r.feeds vars p → (p.ending ≡ waiting → ⊥) → p.written ≡ s →
+      IsCauseOf c (after r.written r.refusals p) → ((place : ℕ) → p.place ≡ Some place → length r.bytes ≤ place + STATEMENT_LIMIT) → Concludes c b rest after'
+  ends-early c p s after' wrote d ended is caused near = record {
+    bytes = r.bytes;
+    written = r.written ++ s;
+    within = omega (arith, r.taken, r.within);
+    told = r.told;
+    wrote = wrote-twice b.sinks now after' r.written s r.wrote wrote;
+    comes = comes.early (after r.written r.refusals p) (plays-out r.so_far false p d) ended caused near (ap (λ x. r.written ++ x) (sym is));
+  }
+
+  -- the same where the input has ended
+  ends-whole : (c : Cause) (p : Played) → w.ended ≡ true → PlaysFrom b.keep true r.held r.so_far.passed r.feeds vars p → p.written ≡ [] →
+      IsCauseOf c (after r.written r.refusals p) → ((place : ℕ) → p.place ≡ Some place → length r.bytes ≤ place + STATEMENT_LIMIT) → Concludes c b rest now
+  ends-whole c p over d is caused near =
+      let e = r.at_end over in
+      record {
+        bytes = r.bytes;
+        written = r.written;
+        within = omega (arith, r.taken, r.within);
+        told = r.told;
+        wrote = r.wrote;
+        comes = comes.whole (after r.written r.refusals p) (plays-out r.so_far true p d) (omega (arith, r.taken, e.0), e.1) caused near (sym (append-nil r.written) ∙ ap (λ x. r.written ++ x) (sym is));
+      }
+
+  -- the play waits for more than was taken
+  waits-there : (c : Cause) → bytes.Cut r.held false piece.Waiting → (c ≡ cause.ReadFault) × (length r.bytes < SCRIPT_LIMIT) ⊎ (c ≡ cause.Overlong) × (length r.bytes ≡ SCRIPT_LIMIT) → Concludes c b rest now
+  waits-there c cut how =
+      let p : Played = record { written = []; refusals = []; ending = waiting; place = None } in
+      record {
+        bytes = r.bytes;
+        written = r.written;
+        within = omega (arith, r.taken, r.within);
+        told = r.told;
+        wrote = r.wrote;
+        comes = comes.waits (after r.written r.refusals p) (plays-out r.so_far false p (last piece.Waiting cut refl)) refl how (sym (append-nil r.written));
+      }
+
+  -- a statement that begins there
+  near-there : (begin line : ℕ) → BeginsAt r.held r.feeds begin line → (place : ℕ) → Some (r.so_far.passed + begin) ≡ Some place → length r.bytes ≤ place + STATEMENT_LIMIT
+  near-there begin line f place e = omega (arith, some-same (r.so_far.passed + begin) place e, f.near, r.so_far.counted)
+
+  -- a statement was found and executed
+  pub statement-turn : (line : ℕ) (w' : State) (vars' : Vars) (s : Record) (after' : Sinks) (t : Turn) (text : List ℕ) → FindsStatement r.held r.feeds line w w' → w'.taken ≡ w.taken → w'.ended ≡ w.ended →
+      text ≡ w'.text → Wrote now after' s → Acts b.keep text line passed vars vars' s t → Turns t b w' vars' rest after'
+  statement-turn line w' vars' s after' t text f taken over same wrote (acts.goes {now = now'} more c counts) =
+      let is = same ∙ f.text_is in
+      record {
+        bytes = r.bytes;
+        held = drop f.end r.held;
+        feeds = r.feeds + count_of_line_feeds (take f.end r.held);
+        refusals = r.refusals ++ more;
+        written = r.written ++ s;
+        holds = f.behind;
+        taken = taken ∙ r.taken;
+        within = omega (arith, taken, r.within);
+        told = r.told;
+        wrote = wrote-twice b.sinks now after' r.written s r.wrote wrote;
+        so_far = at-behind r.so_far f.begin f.end s more vars' f.stands (takes-there b.keep r.held text line vars f.begin f.end r.so_far.passed r.feeds (λ place. play.goes s more vars') is f.begins.line_is c);
+        passes = counted-more r.refusals more passed now' line r.passes counts;
+        few = omega (arith, r.few, fresh-few passed now' line more counts, f.stands.some, f.stands.within, length-drop f.end r.held, length-append r.refusals more);
+        at_end = λ e. let k = r.at_end (sym over ∙ e) in (omega (arith, taken, k.0), k.1);
+      }
+  statement-turn line w' vars' s after' t text f taken over same wrote (acts.stops {c = c} e comes how) =
+      let is = same ∙ f.text_is in
+      let p : Played = record { written = s; refusals = []; ending = e; place = Some (r.so_far.passed + f.begin) } in
+      ends-early c p s after' wrote
+      (last (piece.Statement f.begin f.end) f.stands (takes-there b.keep r.held text line vars f.begin f.end r.so_far.passed r.feeds (λ place. play.stops (record { written = s; refusals = []; ending = e; place = Some place })) is f.begins.line_is comes))
+      (ends-ended c passed line e how) refl (ends-cause c passed line e r.refusals (after r.written r.refusals p) how r.passes (append-nil r.refusals) refl) (near-there f.begin line f.begins)
+  statement-turn line w' vars' s after' t text f taken over same wrote (acts.breaks {c = c} how p) = record {
+    bytes = r.bytes;
+    written = r.written ++ s;
+    within = omega (arith, r.taken, r.within);
+    told = r.told;
+    wrote = wrote-twice b.sinks now after' r.written s r.wrote wrote;
+    comes = comes.broken how (left-out r.so_far s (part-there f.begin f.end r.so_far.passed r.feeds (same ∙ f.text_is) f.begins.line_is f.stands p));
+  }
+
+  -- only blanks and comments are left
+  pub end-turn : (c : Cause) → c ≡ end_of passed → bytes.Cut r.held w.ended piece.End → Concludes c b rest now
+  end-turn c is cut =
+      let p : Played = record { written = []; refusals = []; ending = done; place = None } in
+      let whole : IsAtEnd r.held true = record { complete = refl; nothing_left = cut.nothing_left } in
+      ends-whole c p cut.complete (last piece.End whole refl) refl
+      (ends-cause c passed 0 done r.refusals (after r.written r.refusals p) (inl (refl, is)) r.passes (append-nil r.refusals) refl) (λ place e. absurd cc)
+
+  -- a statement that is refused where it begins
+  refused-there : Fault → ℕ → Played
+  refused-there f begin = record { written = []; refusals = []; ending = refused f (r.feeds + line_of r.held begin); place = Some (r.so_far.passed + begin) }
+
+  -- the next statement is too long
+  pub long-turn : (c : Cause) (begin line : ℕ) → c ≡ refusal_of fault.TooLong line → bytes.Cut r.held w.ended (piece.TooLong begin) → BeginsAt r.held r.feeds begin line → Concludes c b rest now
+  unfolding refused-there
+  long-turn c begin line is cut f =
+      let p = refused-there fault.TooLong begin in
+      let caused = ends-cause c passed line (refused fault.TooLong line) r.refusals (after r.written r.refusals p) (inr (fault.TooLong, refl, is)) r.passes (append-nil r.refusals) (ap (refused fault.TooLong) (sym f.line_is)) in
+      let e = ends-early c p [] now (wrote-none now) (last (piece.TooLong begin) cut refl) (λ h. cc) refl caused (near-there begin line f) in
+      e
+
+  -- the input ends inside a statement
+  pub unfinished-turn : (c : Cause) (begin line : ℕ) → c ≡ refusal_of fault.Syntax line → bytes.Cut r.held w.ended (piece.Unfinished begin) → BeginsAt r.held r.feeds begin line → Concludes c b rest now
+  unfolding refused-there
+  unfinished-turn c begin line is cut f =
+      let p = refused-there fault.Syntax begin in
+      let caused = ends-cause c passed line (refused fault.Syntax line) r.refusals (after r.written r.refusals p) (inr (fault.Syntax, refl, is)) r.passes (append-nil r.refusals) (ap (refused fault.Syntax) (sym f.line_is)) in
+      let whole : IsUnfinished r.held true begin = record { complete = refl; begins = cut.begins; some = cut.some; few = cut.few; no_end = cut.no_end } in
+      ends-whole c p cut.complete (last (piece.Unfinished begin) whole refl) refl caused (near-there begin line f)
+
+  -- more was wanted, and read, or the end was seen, or nothing was read
+  pub more-turn : (w' w'' : State) (got : List ℕ) (rest' : Option (List ℕ)) (t : Turn) → WantsMore r.held r.feeds w w' → w'.taken ≡ w.taken → w'.ended ≡ w.ended → rest ≡ prepend_known got rest' → ReadsMore passed w' w'' got rest' t → Turns t b w'' vars rest' now
+  more-turn w' w'' got rest' t m taken over told (reads.gets is some within) = record {
+    bytes = r.bytes ++ got;
+    held = r.held ++ got;
+    feeds = r.feeds;
+    refusals = r.refusals;
+    written = r.written;
+    holds = subst (Holds (r.held ++ got) r.feeds) (sym is) (holds-append r.held got r.feeds (w'.taken + length got) w' m.same);
+    taken = omega (arith, ap (λ (x : State). x.taken) is, taken, r.taken, length-append r.bytes got);
+    within = within;
+    told = r.told ∙ ap (prepend_known r.bytes) told ∙ prepend-twice r.bytes got rest';
+    wrote = r.wrote;
+    so_far = at-read r.so_far got;
+    passes = r.passes;
+    few = omega (arith, r.few, length-append r.bytes got, length-append r.held got);
+    at_end = λ e. absurd (open-ended w''.ended (ap (λ (x : State). x.ended) is ∙ over ∙ m.open_) e);
+  }
+  more-turn w' w'' got rest' t m taken over told (reads.at_end none is few empty) = record {
+    bytes = r.bytes;
+    held = r.held;
+    feeds = r.feeds;
+    refusals = r.refusals;
+    written = r.written;
+    holds = subst (Holds r.held r.feeds) (sym is) (record { front = m.same.front; tail = m.same.tail; parted = m.same.parted; skips = m.same.skips; held = m.same.held; counted = m.same.counted });
+    taken = ap (λ (x : State). x.taken) is ∙ taken ∙ r.taken;
+    within = omega (arith, ap (λ (x : State). x.taken) is, few);
+    told = r.told ∙ ap (prepend_known r.bytes) (told ∙ ap (λ xs. prepend_known xs rest') none ∙ prepend-none rest');
+    wrote = r.wrote;
+    so_far = r.so_far;
+    passes = r.passes;
+    few = r.few;
+    at_end = λ e. (omega (arith, ap (λ (x : State). x.taken) is, few), empty);
+  }
+  more-turn w' w'' got rest' t m taken over told (reads.fails none is few) =
+      subst (λ o. Concludes cause.ReadFault b o now) (told ∙ ap (λ xs. prepend_known xs rest') none ∙ prepend-none rest')
+      (waits-there cause.ReadFault m.waits (inl (refl, omega (arith, taken, r.taken, few))))
+  more-turn w' w'' got rest' t m taken over told (reads.full none is all) =
+      subst (λ o. Concludes cause.Overlong b o now) (told ∙ ap (λ xs. prepend_known xs rest') none ∙ prepend-none rest')
+      (waits-there cause.Overlong m.waits (inr (refl, omega (arith, taken, r.taken, all))))

@@ -1,16 +1,18 @@
 -- How a run ends, and what it wrote by then.
-use Rattle.std.specs.Prelude.{◌≡◌, ℕ, ◌⊎◌, Bool, true, false, List, [], ◌∷◌, ◌++◌, length, take, Option, None, Some, is_some}
-use Rattle.std.specs.Io.KnownBytes.{append_known}
-use Rattle.sg_cut.specs.declared.limits.TheConstants.{SCRIPT_LIMIT}
+use Rattle.std.specs.Prelude.{◌≡◌, ℕ, ◌+◌, ◌≤◌, ◌⊎◌, Bool, true, false, List, [], ◌++◌, length, take, Option, None, Some, is_some, ⊤}
+use Rattle.sg_cut.specs.declared.limits.TheConstants.{SCRIPT_LIMIT, STATEMENT_LIMIT}
 use Rattle.sg_io.specs.Faults.{Rose}
 use Rattle.sg_io.specs.Inputs.{Input, input_named}
-use Rattle.sg_play.specs.Record.{Record, out, err, marked, IsFrontOf, Played, done, refused, waiting}
+use Rattle.sg_rows.specs.declared.fault.Fault.TheVariants as fault
+use Rattle.sg_words.specs.Settings.{Wanted}
+use Rattle.sg_play.specs.Record.{Record, Refusal, err, marked, IsFrontOf, Played, done, refused, waiting}
 use Rattle.sg_play.specs.Play.{Play}
 use Rattle.sg_play.specs.Left.{IsLeft}
 use Rattle.sgps_cli.specs.Causes.{last_line}
-use Rattle.sgps_cli.specs.Settings.{Wanted}
+use Rattle.sgps_cli.specs.Passed.{HasRefusals}
+use Rattle.sgps_cli.specs.Written.{Sinks, Wrote}
 use Rattle.sgps_cli.specs.Input.{IsInput, IsTaken}
-use Rattle.sgps_cli.specs.Settled.{Settled}
+use Rattle.sgps_cli.specs.Settled.{Settled, keep_of}
 use Rattle.sgps_cli.specs.declared.ending.Cause.{Cause}
 use Rattle.sgps_cli.specs.declared.ending.Cause.TheVariants as cause
 
@@ -24,28 +26,6 @@ pub record Seen : Type 0 where
   pub faults_before : ℕ
   pub faults_after : ℕ
 
--- what the two sinks have taken, as far as they tell it
-pub record Sinks : Type 0 where
-  pub on_out : Option (List ℕ)
-  pub on_err : Option (List ℕ)
-
--- the bytes of a record with a mark, in their order
-abbrev pub out_bytes : Record → List ℕ
-out_bytes [] = []
-out_bytes ((out, b) ∷ r) = b ∷ out_bytes r
-out_bytes ((err, b) ∷ r) = out_bytes r
-
--- the bytes marked err, in their order
-abbrev pub err_bytes : Record → List ℕ
-err_bytes [] = []
-err_bytes ((out, b) ∷ r) = err_bytes r
-err_bytes ((err, b) ∷ r) = b ∷ err_bytes r
-
--- `out` gained the bytes marked out and `err` those marked err, and neither gained more
-pub record Wrote (old new : Sinks) (r : Record) : Type 0 where
-  pub out_gained : new.on_out ≡ append_known old.on_out (out_bytes r)
-  pub err_gained : new.on_err ≡ append_known old.on_err (err_bytes r)
-
 -- the source was begun, with the input b that the accepted words name
 pub record Reads (seen : Seen) (b : List ℕ) : Type 0 where
   pub wanted : Wanted
@@ -55,7 +35,7 @@ pub record Reads (seen : Seen) (b : List ℕ) : Type 0 where
 
 -- the whole script came to this play
 abbrev pub Settles : Seen → Played → Type 0
-Settles seen p = (b : List ℕ) × Reads seen b × Settled b p
+Settles seen p = (b : List ℕ) × (r : Reads seen b) × Settled b (keep_of r.wanted) p
 
 -- the part of the input that was taken, played as if more may follow, waits for more
 pub record WaitsForMore (seen : Seen) (p : Played) : Type 0 where
@@ -64,7 +44,7 @@ pub record WaitsForMore (seen : Seen) (p : Played) : Type 0 where
   pub begun : seen.begun ≡ true
   pub bytes : List ℕ
   pub taken : IsTaken seen.inputs wanted.file seen.left bytes
-  pub played : Play bytes false p
+  pub played : Play bytes false (keep_of wanted) p
   pub waits : p.ending ≡ waiting
 
 -- as many bytes were taken as a script may have, and no statement inside them ends the run
@@ -80,34 +60,60 @@ pub record IsOverlongAtLimit (c : Cause) (seen : Seen) : Type 0 where
 abbrev pub CouldNotBegin : Seen → Type 0
 CouldNotBegin seen = ((wanted : Wanted) × (seen.settings ≡ Some wanted)) × (seen.begun ≡ false)
 
+-- the cause of a play, by its ending and the statements that it passed
+abbrev pub IsCauseOf : Cause → Played → Type 0
+IsCauseOf cause.Ok p = (p.ending ≡ done) × (p.refusals ≡ [])
+IsCauseOf (cause.Refusals count line) p = (p.ending ≡ done) × HasRefusals p.refusals count line
+IsCauseOf (cause.Script f line) p = (p.ending ≡ refused f line) × (f ≡ fault.Budget → ⊥)
+IsCauseOf (cause.Budget line) p = p.ending ≡ refused fault.Budget line
+IsCauseOf cause.Overlong p = p.ending ≡ waiting
+IsCauseOf cause.Usage p = ⊥
+IsCauseOf cause.ReadFault p = ⊥
+IsCauseOf cause.WriteFault p = ⊥
+IsCauseOf cause.Memory p = ⊥
+
 -- the condition of a cause, and the record that stands before its line
 abbrev pub Comes : Cause → Seen → Record → Type 0
 Comes cause.Usage seen body = (seen.settings ≡ None) × (body ≡ [])
-Comes cause.Ok seen body = (p : Played) × Settles seen p × (p.ending ≡ done) × (body ≡ p.written)
-Comes (cause.Script fault line) seen body = (p : Played) × Settles seen p × (p.ending ≡ refused fault line) × (body ≡ p.written)
-Comes cause.Overlong seen body = (p : Played) × Settles seen p × (p.ending ≡ waiting) × (body ≡ p.written)
 Comes cause.ReadFault seen body =
     Rose seen.faults_before seen.faults_after × (CouldNotBegin seen × (body ≡ []) ⊎ ((p : Played) × WaitsForMore seen p × (body ≡ p.written)))
-Comes cause.WriteFault seen body = ⊥
-Comes cause.Memory seen body = ⊥
+Comes c seen body = (p : Played) × Settles seen p × IsCauseOf c p × (body ≡ p.written)
+
+-- no more was taken of the input than so many bytes
+abbrev pub TakesUpTo : Seen → ℕ → Type 0
+TakesUpTo seen n = (wanted : Wanted) × (seen.settings ≡ Some wanted) × ((bytes : List ℕ) × IsTaken seen.inputs wanted.file seen.left bytes × (length bytes ≤ n))
+
+-- a run whose cause is that of its play took no more than a statement may have, from the first byte of the statement on
+-- that ended it
+abbrev pub IsNear : Cause → Seen → Type 0
+IsNear c seen = (p : Played) × Settles seen p × IsCauseOf c p × ((place : ℕ) → p.place ≡ Some place → TakesUpTo seen (place + STATEMENT_LIMIT))
+
+-- the same, of each cause
+abbrev pub ReadsInOnePass : Cause → Seen → Type 0
+ReadsInOnePass cause.Usage seen = ⊤
+ReadsInOnePass cause.ReadFault seen = ⊤
+ReadsInOnePass cause.Overlong seen = ⊤
+ReadsInOnePass cause.WriteFault seen = ⊤
+ReadsInOnePass cause.Memory seen = ⊤
+ReadsInOnePass c seen = IsNear c seen
 
 -- the whole record of a cause: its line follows what stands before it
 abbrev pub full : Cause → Record → Record
 full c body = body ++ marked err (last_line c)
 
--- A run that was stopped had written this text, while its script was played, and this front of a last line. The text is
--- a front of what the whole script writes, for every play that the script has. There is at most one, and that there
+-- A run that was stopped had written this, while its script was played, and this front of a last line. The first is a
+-- front of what the whole script writes, for every play that the script has. There is at most one, and that there
 -- always is one is no part of this definition: so it also says what was played, whole statements and a part of one.
-pub data IsEarly (seen : Seen) : List ℕ → List ℕ → Type 0 where
+pub data IsEarly (seen : Seen) : Record → List ℕ → Type 0 where
   nothing : IsEarly seen [] []
-  playing : {text : List ℕ} (b : List ℕ) → Reads seen b → IsLeft (take SCRIPT_LIMIT b) text
-      → ((p : Played) → Settled b p → IsFrontOf (marked out text) p.written) → IsEarly seen text []
-  telling : {text said : List ℕ} (c : Cause) (rest : List ℕ) → Comes c seen (marked out text) → last_line c ≡ said ++ rest → IsEarly seen text said
+  playing : {r : Record} (b : List ℕ) (reads : Reads seen b) → IsLeft (take SCRIPT_LIMIT b) (keep_of reads.wanted) r
+      → ((p : Played) → Settled b (keep_of reads.wanted) p → IsFrontOf r p.written) → IsEarly seen r []
+  telling : {r : Record} {said : List ℕ} (c : Cause) (rest : List ℕ) → Comes c seen r → last_line c ≡ said ++ rest → IsEarly seen r said
 
 -- a run that was stopped wrote what it had written, and a front of the line for want of memory
 abbrev pub RunsOut : Seen → Sinks → Sinks → Type 0
 RunsOut seen old new =
-    (text said line rest : List ℕ) × IsEarly seen text said × (last_line cause.Memory ≡ line ++ rest) × Wrote old new (marked out text ++ marked err (said ++ line))
+    (r : Record) × (said line rest : List ℕ) × IsEarly seen r said × (last_line cause.Memory ≡ line ++ rest) × Wrote old new (r ++ marked err (said ++ line))
 
 -- how often the sinks had failed when a run began, and when it ended
 pub record SinkFaults : Type 0 where
@@ -120,7 +126,7 @@ pub record SinkFaults : Type 0 where
 abbrev pub FailsToWrite : Seen → Sinks → Sinks → SinkFaults → Type 0
 FailsToWrite seen old new f =
     (Rose f.out_before f.out_after ⊎ Rose f.err_before f.err_after)
-    × (((text said : List ℕ) × IsEarly seen text said × ((said ≡ []) ⊎ Rose f.err_before f.err_after) × Wrote old new (marked out text ++ marked err said))
+    × (((r : Record) × (said : List ℕ) × IsEarly seen r said × ((said ≡ []) ⊎ Rose f.err_before f.err_after) × Wrote old new (r ++ marked err said))
     ⊎ (Rose f.err_before f.err_after × RunsOut seen old new))
 
 -- how a run ends: with the whole record of its cause, or stopped by a sink or for want of memory
@@ -129,15 +135,16 @@ Ends cause.WriteFault seen old new f = FailsToWrite seen old new f
 Ends cause.Memory seen old new f = RunsOut seen old new
 Ends c seen old new f = (body : Record) × Comes c seen body × Wrote old new (full c body)
 
--- how a run ends before its last line is written: with the text that stands before the line of its cause, or stopped
-pub data Closes (c : Cause) (seen : Seen) (text : List ℕ) : Type 0 where
-  closed : Comes c seen (marked out text) → Closes c seen text
-  stopped : (c ≡ cause.WriteFault) ⊎ (c ≡ cause.Memory) → IsEarly seen text [] → Closes c seen text
+-- how a run ends before its last line is written: with the record that stands before the line of its cause, or stopped
+pub data Closes (c : Cause) (seen : Seen) (r : Record) : Type 0 where
+  closed : Comes c seen r → Closes c seen r
+  stopped : (c ≡ cause.WriteFault) ⊎ (c ≡ cause.Memory) → IsEarly seen r [] → Closes c seen r
 
--- the same, and a run is too long exactly at the limit
-pub record IsClosed (c : Cause) (seen : Seen) (text : List ℕ) : Type 0 where
-  pub closes : Closes c seen text
+-- the same; a run is too long exactly at the limit, and reads its input in one pass
+pub record IsClosed (c : Cause) (seen : Seen) (r : Record) : Type 0 where
+  pub closes : Closes c seen r
   pub overlong : IsOverlongAtLimit c seen
+  pub one_pass : ReadsInOnePass c seen
 
 -- the source tells the input that the words name, and the script in it is played to its end
 pub record PlaysToEnd (settings : Option Wanted) (inputs : Option (List Input)) : Type 0 where
@@ -148,9 +155,12 @@ pub record PlaysToEnd (settings : Option Wanted) (inputs : Option (List Input)) 
   pub bytes : List ℕ
   pub input : input_named wanted.file listed ≡ Some bytes
   pub play : Played
-  pub settled : Settled bytes play
+  pub settled : Settled bytes (keep_of wanted) play
   pub ends : play.ending ≡ done
 
--- Ok, or want of memory
-abbrev pub EndsWell : Cause → Type 0
-EndsWell c = (c ≡ cause.Ok) ⊎ (c ≡ cause.Memory)
+-- the end of a script that is played to its end: Ok, or Refusals where statements were refused; or want of memory
+abbrev pub EndsWell : Cause → List Refusal → Type 0
+EndsWell cause.Ok refusals = refusals ≡ []
+EndsWell (cause.Refusals count line) refusals = HasRefusals refusals count line
+EndsWell cause.Memory refusals = ⊤
+EndsWell c refusals = ⊥

@@ -1,7 +1,7 @@
 -- The input that the words name, as a source may tell it.
 use Rattle.std.specs.Prelude.{◌≡◌, ℕ, ◌++◌, List, Option, Some, None, IfSome, IsSome, ⊤}
 use Rattle.sg_io.specs.Inputs.{Input, input_named}
-use Rattle.sgps_cli.specs.Settings.{Wanted}
+use Rattle.sg_words.specs.Settings.{Wanted}
 
 -- b are the bytes of the input of this name, where the source tells its inputs
 abbrev pub IsInput : Option (List Input) → Option (List ℕ) → List ℕ → Type 0

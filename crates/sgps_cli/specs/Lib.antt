@@ -1,9 +1,8 @@
+pub mod Passed
 pub mod Causes
-pub mod Settings
+pub mod Written
 pub mod Input
 pub mod Settled
-pub mod Extents
 pub mod Playing
-pub mod Concludes
 pub mod Reports
 pub mod Ends

@@ -5,8 +5,15 @@ use sg_calls::Fault;
 /// Why a run ended.
 #[derive(Clone, Copy, Debug, PartialEq, Eq)]
 pub enum Cause {
-    /// The script ran to its end, or to `quit;`.
+    /// The script ran to its end, or to `quit;`, and no statement was refused.
     Ok,
+    /// The script ran to its end, or to `quit;`, past statements that were refused.
+    Refusals {
+        /// How many there were.
+        count: u64,
+        /// The line of the last one, from 1.
+        line: u64,
+    },
     /// The words are not accepted.
     Usage,
     /// The source failed, and no statement inside the bytes read ends the run.
@@ -15,10 +22,15 @@ pub enum Cause {
     Overlong,
     /// A sink failed.
     WriteFault,
-    /// A statement was refused.
+    /// A statement was refused, by another fault than Budget, and ended the run.
     Script {
         /// Its fault.
         fault: Fault,
+        /// Its line, from 1.
+        line: u64,
+    },
+    /// A statement was refused since it asked for more than the budget, and ended the run.
+    Budget {
         /// Its line, from 1.
         line: u64,
     },
@@ -29,7 +41,7 @@ pub enum Cause {
 /// How a run ended: the status for the shell, and why.
 #[derive(Clone, Copy, Debug, PartialEq, Eq)]
 pub struct Ending {
-    /// 0 to 5.
+    /// 0 to 6.
     pub status: u8,
     /// What ended the run.
     pub cause: Cause,
@@ -45,17 +57,18 @@ impl Cause {
     {
         match self {
             Cause::Ok => 0,
-            Cause::Script { .. } => 1,
+            Cause::Refusals { .. } | Cause::Script { .. } => 1,
             Cause::Usage => 2,
             Cause::ReadFault | Cause::Overlong => 3,
             Cause::WriteFault => 4,
             Cause::Memory => 5,
+            Cause::Budget { .. } => 6,
         }
     }
 }
 
 ghost use Rattle.std.specs.Prelude.{◌≡◌};
-ghost use Rattle.sgps_cli.specs.Causes.{name_of};
+ghost use Rattle.sg_play.specs.FaultLines.{name_of};
 
 /// The name of a fault, as it is printed.
 pub fn fault_name(fault: Fault) -> &'static [u8]

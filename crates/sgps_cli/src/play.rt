@@ -1,158 +1,189 @@
-//! A script is played: its statements are cut from the front, read and executed in turn.
+//! A script is played as it is read: its statements are found, read and executed in turn.
 
-ghost use Rattle.std.specs.Prelude.{◌≡◌, ◌+◌, ◌≤◌, ◌++◌, ℕ, List, [], length};
-ghost use Rattle.std.specs.Io.KnownBytes.{append_known};
-ghost use Rattle.sg_io.specs.Faults.{HasCauseAt};
-ghost use Rattle.sg_cut.specs.Cut.{StandsAt};
-ghost use Rattle.sg_cut.specs.declared.limits.TheConstants.{SCRIPT_LIMIT};
-ghost use Rattle.sg_cut.specs.Lines.{line_of};
+ghost use Rattle.std.specs.Prelude.{◌≡◌, ◌+◌, ◌<◌, ◌≤◌, ◌⊎◌, ℕ, List, Option, length, true, false};
+ghost use Rattle.std.specs.Io.KnownBytes.{append_known, prepend_known};
+ghost use Rattle.sg_io.specs.Faults.{HasCauseAt, Rose};
+ghost use Rattle.sg_cut.specs.declared.limits.TheConstants.{SCRIPT_LIMIT, STATEMENT_LIMIT};
 ghost use Rattle.sg_eval.specs.Machine.{state_of};
-ghost use Rattle.sgps_cli.specs.Playing.{Performed, Plays, Turns};
+ghost use Rattle.sg_play.specs.Record.{Record};
+ghost use Rattle.sgps_cli.specs.Playing.{Acts, Begun, Concludes, Executed, IsGoing, IsReached, ReadsMore, Turns, work_of};
+ghost use Rattle.sgps_cli.specs.Written.{Sinks, Wrote};
 
+use crate::ending::Cause;
+use crate::passed::{Passed, refusal};
+use crate::report::write_fault;
 use sg_calls::Fault;
-use sg_cut::{Piece, cut, line_feeds};
+use sg_cut::SCRIPT_LIMIT;
 use sg_eval::{Flow, Machine, StepFault};
-use sg_io::Sink;
+use sg_io::{Sink, SinkFault, Source};
 use sg_script::{ParseFault, parse};
 use sg_store::Store;
+use sg_window::{Cut, Window};
 use std::alloc::Global;
-
-/// What a play came to.
-#[derive(Clone, Copy, PartialEq, Eq, Debug)]
-pub enum Verdict {
-    /// The script ran to its end, or to `quit;`.
-    Done,
-    /// A statement was refused.
-    Refused {
-        /// Why.
-        fault: Fault,
-        /// The line of its first byte, from 1.
-        line: u64,
-    },
-    /// More bytes are waited for.
-    Waiting,
-}
-
-/// Why a play was left before its end.
-#[derive(Clone, Copy, PartialEq, Eq, Debug)]
-pub enum Stopped {
-    /// The sink failed.
-    Write,
-    /// Memory was wanting.
-    Memory,
-}
 
 /// What one turn of a play came to.
 #[derive(Clone, Copy)]
 enum Turn {
-    /// A statement was executed, and the play goes on behind it.
-    Goes {
-        /// Where it ends.
-        end: usize,
-    },
+    /// The play goes on, and these statements were passed.
+    Goes(Passed),
     /// The play ends here.
-    Stops(Verdict),
+    Stops(Cause),
 }
 
-/// Plays a script, which is all that there is where `whole` holds, from its first byte and with no variable.
-pub fn play<W: Sink>(
+/// Plays an input that was begun, from its first byte and with no variable, and says what ends the run. No more is read
+/// before each statement that was read whole is executed. Refused statements are passed where `keep` holds.
+pub fn play<S: Source, W: Sink, E: Sink>(
     alloc: Global,
-    script: &[u8],
-    whole: bool,
+    keep: bool,
+    source: &mut S,
     out: &mut W,
-) -> Result<Verdict, Stopped>
-    requires { length script.now ≤ SCRIPT_LIMIT }
-    ensures plays { (gained : List ℕ) × (W.taken out.new ≡ append_known (W.taken out.old) gained) × Plays result script.now whole gained }
-    ensures cause { HasCauseAt Stopped.Write (W.faults out.old) (W.faults out.new) result }
-    ensures sure { W.sure out.new ≡ W.sure out.old }
+    err: &mut E,
+) -> Cause
+    requires { S.begun source.old ≡ true }
+    ensures plays { Concludes result (record { keep = keep; all = S.left source.old; sinks = record { on_out = W.taken out.old; on_err = E.taken err.old } }) (S.left source.new) (record { on_out = W.taken out.new; on_err = E.taken err.new }) }
+    ensures read_fault { result ≡ Cause.ReadFault → Rose (S.faults source.old) (S.faults source.new) }
+    ensures write_fault { result ≡ Cause.WriteFault → Rose (W.faults out.old) (W.faults out.new) ⊎ Rose (E.faults err.old) (E.faults err.new) }
+    ensures source_faults { S.faults source.old ≤ S.faults source.new }
+    ensures out_faults { W.faults out.old ≤ W.faults out.new }
+    ensures err_faults { E.faults err.old ≤ E.faults err.new }
+    ensures begun { S.begun source.new ≡ true }
+    ensures missing { S.missing source.new ≡ S.missing source.old }
+    ensures inputs { S.inputs source.new ≡ S.inputs source.old }
+    ensures source_sure { S.sure source.new ≡ S.sure source.old }
+    ensures out_sure { W.sure out.new ≡ W.sure out.old }
+    ensures err_sure { E.sure err.new ≡ E.sure err.old }
 {
+    let mut window = match Window::new(alloc) {
+        Ok(window) => window,
+        Err(_) => return Cause::Memory,
+    };
     let mut machine = Machine::new(alloc, Store::new(alloc));
-    let mut rest = script;
-    let mut feeds = 0;
+    let mut passed = Passed { count: 0, line: 0 };
     loop {
-        match take_turn(alloc, &mut machine, rest, whole, feeds, out)? {
-            Turn::Goes { end } => {
-                let (passed, after) = rest.split_at(end);
-                feeds += line_feeds(passed);
-                rest = after;
+        match take_turn(
+            alloc,
+            keep,
+            &mut window,
+            &mut machine,
+            passed,
+            source,
+            out,
+            err,
+        ) {
+            Turn::Goes(now) => passed = now,
+            Turn::Stops(cause) => return cause,
+        }
+    }
+}
+
+/// Looks for the next statement and executes it, or reads more where there is none.
+fn take_turn<S: Source, W: Sink, E: Sink>(
+    alloc: Global,
+    keep: bool,
+    window: &mut Window,
+    machine: &mut Machine,
+    passed: Passed,
+    source: &mut S,
+    out: &mut W,
+    err: &mut E,
+) -> Turn
+    requires begun { S.begun source.old ≡ true }
+    requires fits { passed.count + length window.old.rest ≤ SCRIPT_LIMIT }
+    ensures turns { (b : Begun) → IsReached (record b { keep = keep }) window.old (state_of machine.old).variables passed (S.left source.old) (record { on_out = W.taken out.old; on_err = E.taken err.old })
+        → Turns result (record b { keep = keep }) window.new (state_of machine.new).variables (S.left source.new) (record { on_out = W.taken out.new; on_err = E.taken err.new }) }
+    ensures shrinks { IsGoing result → work_of window.new < work_of window.old }
+    ensures read_fault { result ≡ Turn.Stops Cause.ReadFault → Rose (S.faults source.old) (S.faults source.new) }
+    ensures write_fault { result ≡ Turn.Stops Cause.WriteFault → Rose (W.faults out.old) (W.faults out.new) ⊎ Rose (E.faults err.old) (E.faults err.new) }
+    ensures source_faults { S.faults source.old ≤ S.faults source.new }
+    ensures out_faults { W.faults out.old ≤ W.faults out.new }
+    ensures err_faults { E.faults err.old ≤ E.faults err.new }
+    ensures begun { S.begun source.new ≡ true }
+    ensures missing { S.missing source.new ≡ S.missing source.old }
+    ensures inputs { S.inputs source.new ≡ S.inputs source.old }
+    ensures source_sure { S.sure source.new ≡ S.sure source.old }
+    ensures out_sure { W.sure out.new ≡ W.sure out.old }
+    ensures err_sure { E.sure err.new ≡ E.sure err.old }
+{
+    match window.next_statement() {
+        Cut::Statement { line } => {
+            perform(alloc, keep, machine, window.text(), line, passed, out, err)
+        }
+        Cut::More => read_more(window, passed, source),
+        Cut::End => Turn::Stops(passed.end()),
+        Cut::TooLong { line } => Turn::Stops(refusal(Fault::TooLong, line)),
+        Cut::Unfinished { line } => Turn::Stops(refusal(Fault::Syntax, line)),
+    }
+}
+
+/// Reads more of the script, where it may have more.
+fn read_more<S: Source>(window: &mut Window, passed: Passed, source: &mut S) -> Turn
+    requires room { length window.old.text + length window.old.rest < STATEMENT_LIMIT }
+    requires not_ended { window.old.ended ≡ false }
+    requires begun { S.begun source.old ≡ true }
+    ensures reads { (got : List ℕ) × (S.left source.old ≡ prepend_known got (S.left source.new)) × ReadsMore passed window.old window.new got (S.left source.new) result }
+    ensures read_fault { result ≡ Turn.Stops Cause.ReadFault → Rose (S.faults source.old) (S.faults source.new) }
+    ensures source_faults { S.faults source.old ≤ S.faults source.new }
+    ensures begun { S.begun source.new ≡ true }
+    ensures missing { S.missing source.new ≡ S.missing source.old }
+    ensures inputs { S.inputs source.new ≡ S.inputs source.old }
+    ensures sure { S.sure source.new ≡ S.sure source.old }
+{
+    if window.taken() == SCRIPT_LIMIT as u64 {
+        return Turn::Stops(Cause::Overlong);
+    }
+    match window.fill(source) {
+        Ok(_) => Turn::Goes(passed),
+        Err(_) => Turn::Stops(Cause::ReadFault),
+    }
+}
+
+/// Executes the statement with this text, which begins in this line.
+fn perform<W: Sink, E: Sink>(
+    alloc: Global,
+    keep: bool,
+    machine: &mut Machine,
+    text: &[u8],
+    line: u64,
+    passed: Passed,
+    out: &mut W,
+    err: &mut E,
+) -> Turn
+    requires { passed.count < SCRIPT_LIMIT }
+    ensures acts { (written : Record) × Wrote (record { on_out = W.taken out.old; on_err = E.taken err.old }) (record { on_out = W.taken out.new; on_err = E.taken err.new }) written
+        × Acts keep text.now line passed (state_of machine.old).variables (state_of machine.new).variables written result }
+    ensures read_fault { result ≡ Turn.Stops Cause.ReadFault → ⊥ }
+    ensures write_fault { result ≡ Turn.Stops Cause.WriteFault → Rose (W.faults out.old) (W.faults out.new) ⊎ Rose (E.faults err.old) (E.faults err.new) }
+    ensures out_faults { W.faults out.old ≤ W.faults out.new }
+    ensures err_faults { E.faults err.old ≤ E.faults err.new }
+    ensures out_sure { W.sure out.new ≡ W.sure out.old }
+    ensures err_sure { E.sure err.new ≡ E.sure err.old }
+{
+    match execute(alloc, machine, text, out) {
+        Ok(Flow::On) => Turn::Goes(passed),
+        Ok(Flow::Quit) => Turn::Stops(passed.end()),
+        Err(StepFault::Script(fault)) => {
+            if !keep {
+                return Turn::Stops(refusal(fault, line));
             }
-            Turn::Stops(verdict) => return Ok(verdict),
+            match write_fault(err, fault, line) {
+                Ok(()) => Turn::Goes(passed.and_one(line)),
+                Err(SinkFault::Failed) => Turn::Stops(Cause::WriteFault),
+                Err(SinkFault::Memory) => Turn::Stops(Cause::Memory),
+            }
         }
+        Err(StepFault::Write) => Turn::Stops(Cause::WriteFault),
+        Err(StepFault::Memory) => Turn::Stops(Cause::Memory),
     }
-}
-
-/// Takes what stands first in the rest of a script, with so many line feeds before the rest.
-fn take_turn<W: Sink>(
-    alloc: Global,
-    machine: &mut Machine,
-    rest: &[u8],
-    whole: bool,
-    feeds: u64,
-    out: &mut W,
-) -> Result<Turn, Stopped>
-    requires { feeds + length rest.now ≤ SCRIPT_LIMIT }
-    ensures turns { (gained : List ℕ) × (W.taken out.new ≡ append_known (W.taken out.old) gained) × Turns result rest.now whole feeds (state_of machine.old).variables (state_of machine.new).variables gained }
-    ensures cause { HasCauseAt Stopped.Write (W.faults out.old) (W.faults out.new) result }
-    ensures sure { W.sure out.new ≡ W.sure out.old }
-{
-    match cut(rest, whole) {
-        Piece::Statement { begin, end } => {
-            execute(alloc, machine, rest, begin, end, whole, feeds, out)
-        }
-        Piece::TooLong { begin } => Ok(refused(Fault::TooLong, rest, begin, feeds)),
-        Piece::Unfinished { begin } => Ok(refused(Fault::Syntax, rest, begin, feeds)),
-        Piece::End => Ok(Turn::Stops(Verdict::Done)),
-        Piece::Waiting => Ok(Turn::Stops(Verdict::Waiting)),
-    }
-}
-
-/// Executes the statement that stands first.
-fn execute<W: Sink>(
-    alloc: Global,
-    machine: &mut Machine,
-    rest: &[u8],
-    begin: usize,
-    end: usize,
-    whole: bool,
-    feeds: u64,
-    out: &mut W,
-) -> Result<Turn, Stopped>
-    requires stands { StandsAt rest.now begin end }
-    requires fits { feeds + length rest.now ≤ SCRIPT_LIMIT }
-    ensures turns { (gained : List ℕ) × (W.taken out.new ≡ append_known (W.taken out.old) gained) × Turns result rest.now whole feeds (state_of machine.old).variables (state_of machine.new).variables gained }
-    ensures cause { HasCauseAt Stopped.Write (W.faults out.old) (W.faults out.new) result }
-    ensures sure { W.sure out.new ≡ W.sure out.old }
-{
-    match perform(alloc, machine, &rest[begin..end], out) {
-        Ok(Flow::On) => Ok(Turn::Goes { end }),
-        Ok(Flow::Quit) => Ok(Turn::Stops(Verdict::Done)),
-        Err(StepFault::Script(fault)) => Ok(refused(fault, rest, begin, feeds)),
-        Err(StepFault::Write) => Err(Stopped::Write),
-        Err(StepFault::Memory) => Err(Stopped::Memory),
-    }
-}
-
-/// The play ends, since the statement that begins here is refused.
-fn refused(fault: Fault, rest: &[u8], begin: usize, feeds: u64) -> Turn
-    requires within { begin ≤ length rest.now }
-    requires fits { feeds + length rest.now ≤ SCRIPT_LIMIT }
-    ensures { result ≡ Turn.Stops (Verdict.Refused fault (feeds + line_of rest.now begin)) }
-{
-    let (before, _) = rest.split_at(begin);
-    Turn::Stops(Verdict::Refused {
-        fault,
-        line: feeds + (1 + line_feeds(before)),
-    })
 }
 
 /// Reads the text of a statement and executes it.
-fn perform<W: Sink>(
+fn execute<W: Sink>(
     alloc: Global,
     machine: &mut Machine,
     text: &[u8],
     out: &mut W,
 ) -> Result<Flow, StepFault>
-    ensures performed { (gained : List ℕ) × (W.taken out.new ≡ append_known (W.taken out.old) gained) × Performed result text.now (state_of machine.old).variables (state_of machine.new).variables gained }
+    ensures executed { (gained : List ℕ) × (W.taken out.new ≡ append_known (W.taken out.old) gained) × Executed result text.now (state_of machine.old).variables (state_of machine.new).variables gained }
     ensures cause { HasCauseAt StepFault.Write (W.faults out.old) (W.faults out.new) result }
     ensures sure { W.sure out.new ≡ W.sure out.old }
 {

@@ -3,10 +3,10 @@
 ghost use Rattle.std.specs.Prelude.{◌≡◌, ◌≤◌, ℕ, List, true, false, None, Some, length, map, string_bytes};
 ghost use Rattle.sg_io.specs.Faults.{Rose};
 ghost use Rattle.sgps_cli.specs.Causes.{status_of};
-ghost use Rattle.sgps_cli.specs.Settings.{Wanted, settings_of};
+ghost use Rattle.sg_words.specs.Settings.{Wanted, settings_of};
 ghost use Rattle.sgps_cli.specs.Input.{HasInput, IsTaken};
 ghost use Rattle.sg_cut.specs.declared.limits.TheConstants.{SCRIPT_LIMIT};
-ghost use Rattle.sgps_cli.specs.Ends.{Ends, EndsWell, IsOverlongAtLimit, PlaysToEnd};
+ghost use Rattle.sgps_cli.specs.Ends.{Ends, EndsWell, IsOverlongAtLimit, PlaysToEnd, ReadsInOnePass};
 
 use crate::ending::Ending;
 use crate::report::report;
@@ -14,13 +14,16 @@ use crate::settle::settle;
 use sg_io::{Sink, Source};
 use std::alloc::Global;
 
-/// Runs the script that the words name: standard input without a word, or one file. What its statements print goes to
-/// `out`, and the line of its end, if it has one, to `err`.
+/// Runs the script that the words name: standard input, or one file. Each statement is executed before more is read.
+/// What it prints goes to `out`, and the line of the end, if it has one, to `err`. With `--keep-going` the line of a
+/// refused statement goes to `err` at once, and the run goes on behind it.
 ///
-/// Ok: the script ran to its end, or to `quit;`. Script: a statement was refused, with its line. Usage: the words are
-/// not accepted, and nothing was begun. ReadFault: the source failed, and no statement inside the bytes read ends the
-/// run. Overlong: as many bytes were taken as a script may have, and no statement inside them ends the run. WriteFault: a sink failed.
-/// Memory: memory was wanting, at any point; after these two `out` has a front of what the script prints.
+/// Ok: the script ran to its end, or to `quit;`, and no statement was refused; Refusals: some were, with their number and
+/// the line of the last. Script, and Budget: a statement was refused, by that fault, with its line, and the run ended
+/// there. Usage: the words are not accepted, and nothing was begun. ReadFault: the source failed, and no statement inside
+/// the bytes read ends the run. Overlong: as many bytes were taken as a script may have, and no statement inside them ends
+/// the run. WriteFault: a sink failed. Memory: memory was wanting, at any point; after these two the sinks have a front of
+/// what the script writes.
 pub fn run<S: Source, W: Sink, E: Sink>(
     alloc: Global,
     words: &[String],
@@ -43,13 +46,18 @@ pub fn run<S: Source, W: Sink, E: Sink>(
     ensures overlong { IsOverlongAtLimit result.cause
         (record { settings = settings_of (map string_bytes words.now); inputs = S.inputs source.old; begun = S.begun source.new; left = S.left source.new; faults_before = S.faults source.old; faults_after = S.faults source.new }) }
 
-    // A script that is played to its end ends Ok, or for want of memory, where nothing fails.
-    ensures complete { PlaysToEnd (settings_of (map string_bytes words.now)) (S.inputs source.old)
+    // A run that ends at a statement took no more than a statement may have, from the first byte of that statement on.
+    ensures one_pass { ReadsInOnePass result.cause
+        (record { settings = settings_of (map string_bytes words.now); inputs = S.inputs source.old; begun = S.begun source.new; left = S.left source.new; faults_before = S.faults source.old; faults_after = S.faults source.new }) }
+
+    // A script that is played to its end ends Ok, as Refusals where statements were refused, or for want of memory, where
+    // nothing fails.
+    ensures complete { (plays : PlaysToEnd (settings_of (map string_bytes words.now)) (S.inputs source.old))
         → ¬ Rose (S.faults source.old) (S.faults source.new) → ¬ Rose (W.faults out.old) (W.faults out.new) → ¬ Rose (E.faults err.old) (E.faults err.new)
-        → EndsWell result.cause }
-    ensures complete_if_sure { PlaysToEnd (settings_of (map string_bytes words.now)) (S.inputs source.old)
+        → EndsWell result.cause plays.play.refusals }
+    ensures complete_if_sure { (plays : PlaysToEnd (settings_of (map string_bytes words.now)) (S.inputs source.old))
         → S.sure source.old ≡ true → S.faults source.old ≡ 0 → W.sure out.old ≡ true → E.sure err.old ≡ true
-        → EndsWell result.cause }
+        → EndsWell result.cause plays.play.refusals }
 
     // Refused words leave the source alone. One that is begun has the input, of which no more than the limit is taken;
     // no input is asked for that is not there.
@@ -68,7 +76,8 @@ pub fn run<S: Source, W: Sink, E: Sink>(
     ensures out_sure { W.sure out.new ≡ W.sure out.old }
     ensures err_sure { E.sure err.new ≡ E.sure err.old }
 {
-    let cause = report(err, settle(alloc, words, source, out));
+    let ended = settle(alloc, words, source, out, err);
+    let cause = report(err, ended);
     Ending {
         status: cause.status(),
         cause,

@@ -3,7 +3,8 @@
 ghost use Rattle.std.specs.Prelude.{◌≡◌, ◌≤◌, ◌++◌, ℕ, List, OnOk, decimal, codes};
 ghost use Rattle.std.specs.Io.KnownBytes.{append_known};
 ghost use Rattle.sg_io.specs.Faults.{AppendsFront, HasCauseAt};
-ghost use Rattle.sgps_cli.specs.Causes.{last_line, name_of};
+ghost use Rattle.sgps_cli.specs.Causes.{last_line};
+ghost use Rattle.sg_play.specs.FaultLines.{fault_line, name_of};
 ghost use Rattle.sgps_cli.specs.Reports.{IsReport};
 
 use crate::ending::{Cause, fault_name};
@@ -32,19 +33,20 @@ fn write_line<E: Sink>(err: &mut E, cause: Cause) -> Result<(), SinkFault>
     ensures sure { E.sure err.new ≡ E.sure err.old }
 {
     match cause {
-        Cause::Ok | Cause::WriteFault => write_whole(err, b""),
+        Cause::Ok | Cause::Refusals { .. } | Cause::WriteFault => write_whole(err, b""),
         Cause::Usage => write_whole(err, b"sgps: usage\n"),
         Cause::ReadFault => write_whole(err, b"sgps: read fault\n"),
         Cause::Overlong => write_whole(err, b"sgps: script too long\n"),
         Cause::Memory => write_whole(err, b"sgps: no memory\n"),
         Cause::Script { fault, line } => write_fault(err, fault, line),
+        Cause::Budget { line } => write_fault(err, Fault::Budget, line),
     }
 }
 
 /// Writes the line of a refused statement.
-fn write_fault<E: Sink>(err: &mut E, fault: Fault, line: u64) -> Result<(), SinkFault>
-    ensures all { OnOk result (E.taken err.new ≡ append_known (E.taken err.old) (last_line (Cause.Script fault line))) }
-    ensures front { AppendsFront (E.taken err.old) (E.taken err.new) (last_line (Cause.Script fault line)) }
+pub fn write_fault<E: Sink>(err: &mut E, fault: Fault, line: u64) -> Result<(), SinkFault>
+    ensures all { OnOk result (E.taken err.new ≡ append_known (E.taken err.old) (fault_line fault line)) }
+    ensures front { AppendsFront (E.taken err.old) (E.taken err.new) (fault_line fault line) }
     ensures cause { HasCauseAt SinkFault.Failed (E.faults err.old) (E.faults err.new) result }
     ensures sure { E.sure err.new ≡ E.sure err.old }
 {

@@ -4,6 +4,7 @@ ghost use Rattle.std.specs.Prelude.{◌<◌};
 
 mod endless;
 mod faults;
+mod keeping;
 mod limits;
 
 use crate::program::run;
@@ -11,9 +12,11 @@ use sg_io::{MemSink, MemSource};
 use std::alloc::Global;
 use std::test::Fail;
 
-/// The status of a script that is read in pieces of this size, if it wrote this to `out` and this to `err`.
-fn status_of(
+/// The status of a run with these words over a standard input that is read in pieces of this size, if it wrote this to
+/// `out` and this to `err`.
+fn status_with(
     alloc: Global,
+    words: &[&str],
     script: &[u8],
     piece: usize,
     out: &[u8],
@@ -24,8 +27,25 @@ fn status_of(
     let mut source = MemSource::new(alloc, script, piece, &[])?;
     let mut on_out = MemSink::new(alloc, &[])?;
     let mut on_err = MemSink::new(alloc, &[])?;
-    let ending = run(alloc, &[], &mut source, &mut on_out, &mut on_err);
+    let mut texts = Vec::new(alloc);
+    for word in words {
+        texts.push(String::from_str(alloc, word)?)?;
+    }
+    let ending = run(alloc, &texts, &mut source, &mut on_out, &mut on_err);
     Ok((on_out.bytes() == out && on_err.bytes() == err).then_some(ending.status))
+}
+
+/// The same without words.
+fn status_of(
+    alloc: Global,
+    script: &[u8],
+    piece: usize,
+    out: &[u8],
+    err: &[u8],
+) -> Result<Option<u8>, Fail>
+    requires { 0 < piece }
+{
+    status_with(alloc, &[], script, piece, out, err)
 }
 
 #[test]
@@ -35,5 +55,7 @@ fn scripts_in_pieces(rt: HostRuntime) -> Result<(), Fail> {
     assert!(rt; status_of(alloc, b"", 1, b"", b"")? == Some(0));
     assert!(rt; status_of(alloc, b"Print(1);", 1, b"1", b"")? == Some(0));
     assert!(rt; status_of(alloc, b"\n\n  Print(", 1, b"", refusal)? == Some(1));
+    assert!(rt; status_of(alloc, b"\n\n  Print(", 7, b"", refusal)? == Some(1));
+    assert!(rt; status_of(alloc, b"\n\n  Print(", 65_536, b"", refusal)? == Some(1));
     Ok(())
 }

@@ -1,4 +1,4 @@
-use Rattle.std.proofs.Common.{ℕ, ◌↔◌, ◌∙◌}
+use Rattle.std.proofs.Common.{ℕ, ◌↔◌, ◌∙◌, refl}
 use Rattle.std.proofs.lemmas.Result.{IfOk-weaker}
 use Rattle.sg_defs.specs.Apery.{IsApery}
 use Rattle.sg_classes.specs.Classes.{IsAboveEntry, IsKunz}
@@ -10,10 +10,10 @@ use Rattle.sg_apery.proofs.derived.common_list.Goals as goal
 use Rattle.sg_apery.proofs.derived.common_list.Goals.{After-drop-first-2}
 
 first : (c : After-drop-first-2) → IsApery c.args.a.now c.args.modulus c.deref.result.now
-first c = table-modulo c.args.a.now c.as_slice.result.now c.deref.result.now c.in_ok-first.first.items c.args.modulus (c.as_slice.ensures ∙ c.generators.ensures.same) c.deref.ensures.value (c.deref.ensures.len ∙ c.in_ok-first.ensures.length) c.in_ok-first.ensures.table
+first c = table-modulo c.args.a.now c.args.a.now c.deref.result.now c.in_ok-first.first.items c.args.modulus refl c.deref.ensures.value (c.deref.ensures.len ∙ c.in_ok-first.ensures.length) c.in_ok-first.ensures.table
 
 second : (c : After-drop-first-2) → IsApery c.args.b.now c.args.modulus c.deref-2.result.now
-second c = table-modulo c.args.b.now c.as_slice-2.result.now c.deref-2.result.now c.in_ok-second.second.items c.args.modulus (c.as_slice-2.ensures ∙ c.generators-2.ensures.same) c.deref-2.ensures.value (c.deref-2.ensures.len ∙ c.in_ok-second.ensures.length) c.in_ok-second.ensures.table
+second c = table-modulo c.args.b.now c.args.b.now c.deref-2.result.now c.in_ok-second.second.items c.args.modulus refl c.deref-2.ensures.value (c.deref-2.ensures.len ∙ c.in_ok-second.ensures.length) c.in_ok-second.ensures.table
 
 pub returns-clause-kunz : goal.returns-clause-kunz
 returns-clause-kunz c =

@@ -2,7 +2,7 @@ use Rattle.std.proofs.Common.{◌≡◌, true, false, rules}
 use Rattle.sg_value.specs.Known.{named}
 use Rattle.sg_value.specs.Plain.{plain}
 use Rattle.sg_value.proofs.Entries.{AllKnownIn-at}
-use Rattle.sg_rows.proofs.Entries.{entry_found, entry_passed, entry_absent}
+use Rattle.sg_rows.proofs.EntryLemmas.{entry_found, entry_passed, entry_absent}
 use Rattle.sg_calls.proofs.membership.is_among.Goals as goal
 
 pub equal-requires-clause-right : goal.equal-requires-clause-right

@@ -1,7 +1,7 @@
 use Rattle.std.proofs.Common.{◌↔◌, drop}
 use Rattle.sg_value.specs.Known.{named}
 use Rattle.sg_value.specs.Plain.{plain, plain_of_all}
-use Rattle.sg_rows.specs.Words.{IsEntry}
+use Rattle.sg_rows.specs.Entries.{IsEntry}
 use Rattle.sg_calls.proofs.membership.is_among.Given as goal
 
 -- it stands here or later, or nowhere

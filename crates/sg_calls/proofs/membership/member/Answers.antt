@@ -1,51 +1,49 @@
-use Rattle.std.proofs.Common.{◌≡◌, ℕ, List, Option, Some, None, IsSome, Ok, refl, ap, sym, ◌∙◌, subst}
-use Rattle.sg_value.specs.Known.{named}
+use Rattle.std.proofs.Common.{◌≡◌, ◌↔◌, IsTrue, Some, None, Ok, refl, ap, ◌∙◌, subst, rules}
+use Rattle.std.specs.Int.{w64}
+use Rattle.std.specs.Prelude.{FitsSigned, MatchOption}
 use Rattle.std.specs.Option.{option_map}
-use Rattle.sg_value.specs.Data.{items_map, semigroups}
+use Rattle.sg_defs.specs.Membership.{IsIntegerMember}
+use Rattle.sg_value.specs.Data.{items_map}
+use Rattle.sg_value.specs.Known.{named}
 use Rattle.sg_value.specs.Plain.{plain, plain_of_all, contents, thing_at}
-use Rattle.sg_rows.specs.Kinds.{as_semigroup}
-use Rattle.sg_rows.specs.Words.{IsEntry}
-use Rattle.sg_rows.specs.Replies.{Replies}
-use Rattle.sg_rows.proofs.Replying.{replies_truth, as_list-plain, as_semigroup-plain}
-use Rattle.sg_rows.proofs.Semigroups.{known_semigroup, plain_semigroup}
-use Rattle.sg_calls.specs.Operations.{membership}
+use Rattle.sg_value.specs.declared.value.Value.TheVariants as value
+use Rattle.sg_rows.specs.Alternatives.{or_else}
+use Rattle.sg_rows.specs.Entries.{IsEntry}
+use Rattle.sg_rows.specs.Forms.{on_integer_and_ideal, on_integer_and_semigroup}
+use Rattle.sg_rows.specs.Kinds.{as_list, integer_then_semigroup}
+use Rattle.sg_rows.specs.Values.{answers, whether}
+use Rattle.sg_rows.proofs.KindLemmas.{as_list-plain}
+use Rattle.sg_rows.proofs.Replying.{replies_truth}
+use Rattle.sg_rows.proofs.Signed.{of_bits_right}
+use Rattle.sg_rows_ideals.specs.Rows.{member_row}
+use Rattle.sg_calls.proofs.Fitting.{first_fitted, other_fitted}
 use Rattle.sg_calls.proofs.membership.member.Goals as goal
 
 pub returns-in-Some-clause-reply : goal.returns-in-Some-clause-reply
 returns-in-Some-clause-reply c =
     let store = c.args.store.now in
-    let f = thing_at (named store) in
-    let d = plain (named store) c.args.v.now in
-    let entries = c.in-Some.entries.now in
-    let seen = as_list-plain f (contents c.args.whole.now) ∙ ap (option_map (items_map f)) c.in-Some.ensures in
-    subst (λ o. Replies (Ok c.truth.result) store (membership d (plain (named store) c.args.whole.now) o (as_semigroup (plain (named store) c.args.whole.now)))) (sym seen)
-    (replies_truth store c.is_among.result c.truth.result (IsEntry d (plain_of_all (named store) entries)) c.truth.ensures c.is_among.ensures)
+    let names = named store in
+    let a = plain names c.args.v.now in
+    let b = plain names c.args.whole.now in
+    let held = plain_of_all names c.in-Some.entries.now in
+    let seen = as_list-plain (thing_at names) (contents c.args.whole.now) ∙ ap (option_map (items_map (thing_at names))) c.in-Some.ensures in
+    first_fitted (as_list b) (λ ds. answers (whether (IsEntry a ds))) store held (Ok (value.Bool c.is_among.result)) _ seen (replies_truth store c.is_among.result (value.Bool c.is_among.result) (IsEntry a held) refl c.is_among.ensures)
 
-some_of : {A : Type 0} (o : Option A) → IsSome o → (a : A) × (o ≡ Some a)
-some_of None h = absurd (cc)
-some_of (Some a) h = (a, refl)
-
-pub returns-in-Some-semigroup_of-clause-reply : goal.returns-in-Some-semigroup_of-clause-reply
-returns-in-Some-semigroup_of-clause-reply c =
-    let names = named c.args.store.now in
-    let f = thing_at names in
-    let d = plain names c.args.v.now in
-    let whole = c.args.whole.now in
-    let id = c.in-Some-semigroup_of.id in
-    let is : as_semigroup (contents whole) ≡ Some id = sym c.semigroup_of.ensures ∙ c.in-Some-semigroup_of.is in
-    let held : (gens : List ℕ) × (names semigroups id ≡ Some gens) = some_of (names semigroups id) (known_semigroup names whole id c.requires.whole is) in
-    let no_list = as_list-plain f (contents whole) ∙ ap (option_map (items_map f)) c.in_default.ensures in
-    subst (λ o. Replies c.is_member.result c.is_member.new.store (membership d (plain names whole) o (as_semigroup (plain names whole)))) (sym no_list)
-    (subst (λ o. Replies c.is_member.result c.is_member.new.store (membership d (plain names whole) None o)) (sym (plain_semigroup names whole id held.0 is held.1)) (c.is_member.ensures.reply held.0 held.1))
-
--- an integer that is to be in an ideal
-pub returns-in-None-clause-reply : goal.returns-in-None-clause-reply
-returns-in-None-clause-reply c =
-    let names = named c.args.store.now in
-    let f = thing_at names in
-    let d = plain names c.args.v.now in
-    let whole = c.args.whole.now in
-    let no_list = as_list-plain f (contents whole) ∙ ap (option_map (items_map f)) c.in_default.ensures in
-    let no_semigroup = as_semigroup-plain f (contents whole) ∙ ap (option_map (f semigroups)) (sym c.semigroup_of.ensures ∙ c.in-None.is) in
-    subst (λ o. Replies c.ideal_member_of.result c.ideal_member_of.new.store (membership d (plain names whole) o (as_semigroup (plain names whole)))) (sym no_list)
-    (subst (λ o. Replies c.ideal_member_of.result c.ideal_member_of.new.store (membership d (plain names whole) None o)) (sym no_semigroup) c.ideal_member_of.ensures.reply)
+pub returns-in-Some-2-clause-reply : goal.returns-in-Some-2-clause-reply
+returns-in-Some-2-clause-reply c =
+    let store = c.args.store.now in
+    let names = named store in
+    let a = plain names c.args.v.now in
+    let b = plain names c.args.whole.now in
+    let x = c.in-Some-2.x in
+    let G = c.in-Some-2.table.value in
+    let yes = c.contains.result in
+    let fit : FitsSigned w64 x = search rules in
+    let no_list = as_list-plain (thing_at names) (contents c.args.whole.now) ∙ ap (option_map (items_map (thing_at names))) c.in_default.ensures in
+    let found : integer_then_semigroup a b ≡ Some (x, G) =
+    subst (λ o. MatchOption o (integer_then_semigroup a b ≡ None) (λ p. integer_then_semigroup a b ≡ Some (p.0, p.1.value))) c.in-Some-2.is c.in_ok-x.ensures.both
+    in
+    let tells = of_bits_right (λ z. IsTrue yes ↔ IsIntegerMember c.deref.result.now z) x fit c.contains.ensures in
+    other_fitted (as_list b) (λ ds. answers (whether (IsEntry a ds))) store (Ok (value.Bool yes)) (or_else (on_integer_and_semigroup a b (λ z H. answers (whether (IsIntegerMember H z)))) (on_integer_and_ideal a b member_row)) no_list
+    (first_fitted (integer_then_semigroup a b) (λ p. answers (whether (IsIntegerMember p.1 p.0))) store (x, G) (Ok (value.Bool yes)) (on_integer_and_ideal a b member_row) found
+    (replies_truth store yes (value.Bool yes) (IsIntegerMember G x) refl (subst (λ H. IsTrue yes ↔ IsIntegerMember H x) c.deref.ensures tells)))

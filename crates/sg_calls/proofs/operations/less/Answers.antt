@@ -1,15 +1,25 @@
-use Rattle.std.proofs.Common.{sym, ◌∙◌}
-use Rattle.std.proofs.lemmas.Bool.{false≢true}
+use Rattle.std.proofs.Common.{◌≡◌, Some, None, sym, ◌∙◌, rules}
 use Rattle.sg_value.specs.Known.{named}
-use Rattle.sg_value.specs.Plain.{plain}
-use Rattle.sg_relative.specs.Operators.{less_of}
+use Rattle.sg_value.specs.Plain.{contents, plain, thing_at}
+use Rattle.sg_rows.specs.Forms.{on_two_ideals}
+use Rattle.sg_rows.specs.Kinds.{two_ideals, two_integers}
+use Rattle.sg_rows.proofs.KindLemmas.{two_integers-plain}
+use Rattle.sg_rows_ideals.specs.Rows.{pair_row}
+use Rattle.sg_rows_ideals.specs.declared.pairs.Pair.TheVariants.{Difference}
+use Rattle.sg_calls.specs.Operations.{calculation}
 use Rattle.sg_calls.specs.declared.operator.Operator.TheVariants.{Less}
-use Rattle.sg_calls.proofs.SeveralKinds.{on_others}
+use Rattle.sg_calls.proofs.Fitting.{fitted_told, found_some, kept_from, other_given, pair_told}
 use Rattle.sg_calls.proofs.operations.less.Goals as goal
 
 pub returns-clause-reply : goal.returns-clause-reply
 returns-clause-reply c =
     let names = named c.args.store.now in
-    let a = c.args.a.now in
-    let b = c.args.b.now in
-    on_others Less names a b c.less_of.result c.less_of.new.store (less_of (plain names a) (plain names b)) (λ are. false≢true (sym c.if-are_integers.false ∙ c.are_integers.ensures.1 are)) c.less_of.ensures.reply
+    let a = plain names c.args.a.now in
+    let b = plain names c.args.b.now in
+    let none : two_integers a b ≡ None = two_integers-plain (thing_at names) (contents c.args.a.now) (contents c.args.b.now) ∙ sym c.in_default.ensures in
+    let found = found_some (two_ideals a b ≡ None) (λ p. (two_ideals a b ≡ Some (p.0.1, p.1.1)) × (p.0.1.ambient ≡ p.0.0.value)) c.in_ok-table.field-0 c.in_ok-table.ensures.both _ c.in-Some-2.is in
+    other_given (two_integers a b) (λ p. calculation Less p.0 p.1) c.deliver.new.store c.deliver.result (on_two_ideals a b (pair_row Difference)) none
+    (fitted_told (two_ideals a b) (λ p. pair_row Difference p.0 p.1) c.deliver.new.store _ c.pair_of.result c.deliver.result found.0 c.deliver.ensures.delivered (pair_told (pair_row Difference) c.pair_of.result _ _ c.in-Some-2.one c.in-Some-2.other c.pair_of.ensures (search rules) (search rules)))
+
+pub returns-clause-keeps : goal.returns-clause-keeps
+returns-clause-keeps c = kept_from c.args.store.now c.two_ideals.new.store c.deliver.new.store c.two_ideals.ensures.unchanged c.deliver.ensures.keeps

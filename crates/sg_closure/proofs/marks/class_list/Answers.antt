@@ -1,6 +1,6 @@
 use Rattle.std.proofs.Common.{arith}
 use Rattle.std.proofs.lemmas.List.{length_push}
-use Rattle.sg_apery.proofs.GeneratorLemmas.{each-push}
+use Rattle.sg_classes.proofs.GeneratorLemmas.{each-push}
 use Rattle.sg_closure.specs.Marks.{IsLeastIn}
 use Rattle.sg_closure.proofs.marks.class_list.Goals as goal
 

@@ -1,7 +1,7 @@
 use Rattle.std.proofs.Common.{◌≡◌, ℕ, ◌+◌, ◌<◌, ◌↔◌, List, length, get_or, Bool, sym, ap, subst, ◌∙◌, inl, inr, arith}
 use Rattle.std.specs.Prelude.{◌⊎◌, Contains}
 use Rattle.std.proofs.lemmas.Bool.{cases_lt}
-use Rattle.sg_apery.proofs.GeneratorLemmas.{contains-place, place-contains}
+use Rattle.sg_classes.proofs.GeneratorLemmas.{contains-place, place-contains}
 use Rattle.sg_closure.specs.Marks.{IsIn}
 use Rattle.sg_closure.proofs.marks.mark_each.Goals as goal
 

@@ -1,12 +1,14 @@
 use Rattle.std.proofs.Common.{◌≡◌, ℕ, ◌<◌, ◌≤◌, Bool, List, length, get_or, sym, subst, arith}
 use Rattle.sg_defs.specs.Membership.{IsNumericalSemigroup, Generates}
 use Rattle.sg_defs.proofs.MembershipLemmas.{member-zero, member-entry}
-use Rattle.sg_apery.specs.Classes.{IsAboveEntry, IsKunz}
+use Rattle.sg_classes.specs.declared.limits.TheConstants.{MULTIPLICITY_LIMIT}
+use Rattle.sg_classes.specs.Classes.{IsAboveEntry, IsKunz}
 use Rattle.sg_apery.specs.Conditions.{IsAperyRefused}
-use Rattle.sg_apery.specs.Fit.{IsTooLarge}
+use Rattle.sg_classes.specs.Fit.{IsTooLarge}
 use Rattle.sg_apery.specs.declared.fault.TableFault.TheVariants.{BadArgument, TooLarge}
-use Rattle.sg_apery.proofs.DerivedLemmas.{generates-iff, too_large-iff}
-use Rattle.sg_closure.specs.Marks.{IsIn, AreLeastIn, IsAbove, IsShort}
+use Rattle.sg_classes.proofs.EntryLemmas.{generates-iff, too_large-iff}
+use Rattle.sg_closure.specs.Marks.{IsIn, AreLeastIn, IsAbove}
+use Rattle.sg_lawful.specs.Spans.{IsShort}
 use Rattle.sg_closure.proofs.FitLemmas.{not-too_large}
 use Rattle.sg_closure.proofs.MarkLemmas.{marks-kunz, in-above_entry}
 use Rattle.sg_closure.proofs.marks.marked_table.Goals as goal
@@ -24,7 +26,7 @@ module _ (G : List ℕ) (marks : List Bool) (m : ℕ) (list : List ℕ) (s : IsN
   generated : (M : List ℕ) → Generates (IsAboveEntry list) M → Generates (IsIn marks) M
   generated M g = generates-iff (IsIn marks) (IsAboveEntry list) (in-above_entry marks m list positive h (above.holds 0 (member-zero G)) modulus_in above.sums) M g
 
-  fits : IsShort G → get_or G 0 0 ≤ 1048576 → IsTooLarge (IsAboveEntry list) → ⊥
+  fits : IsShort G → get_or G 0 0 ≤ MULTIPLICITY_LIMIT → IsTooLarge (IsAboveEntry list) → ⊥
   fits short small large = not-too_large G short s small (IsIn marks) above.holds
       (too_large-iff (IsIn marks) (IsAboveEntry list) (in-above_entry marks m list positive h (above.holds 0 (member-zero G)) modulus_in above.sums) large)
 

@@ -1,6 +1,6 @@
 use Rattle.std.proofs.Common.{◌≡◌, ℕ, List, length, sym, ap, subst, arith}
 use Rattle.sg_apery.specs.Generators.{AreRefused}
-use Rattle.sg_apery.proofs.EntryLemmas.{first-least}
+use Rattle.sg_defs.proofs.MinimalLemmas.{first-least}
 use Rattle.sg_closure.specs.Differences.{AreDifferences}
 use Rattle.sg_closure.proofs.DifferenceLemmas.{differences-accepted, differences-small}
 use Rattle.sg_closure.proofs.med.differences.Goals as goal

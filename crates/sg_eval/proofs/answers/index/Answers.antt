@@ -3,7 +3,7 @@ use Rattle.std.specs.Prelude.{FitsSigned}
 use Rattle.std.specs.Int.{w64}
 use Rattle.sg_value.specs.Plain.{contents_of_all}
 use Rattle.sg_rows.proofs.Signed.{of_bits_right}
-use Rattle.sg_eval.specs.Entries.{as_natural}
+use Rattle.sg_meaning.specs.Entries.{as_natural}
 use Rattle.sg_eval.proofs.Placed.{index_found, index_out, entry_natural}
 use Rattle.sg_eval.proofs.answers.index.Goals as goal
 

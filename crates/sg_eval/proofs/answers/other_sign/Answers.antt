@@ -3,7 +3,7 @@ use Rattle.sg_value.specs.Known.{named}
 use Rattle.sg_value.specs.Plain.{plain}
 use Rattle.sg_rows.specs.Order.{IsReply}
 use Rattle.sg_calls.specs.Operations.{negation}
-use Rattle.sg_eval.specs.Queries.{negates}
+use Rattle.sg_meaning.specs.Queries.{negates}
 use Rattle.sg_eval.proofs.Evaluating.{evaluates_reply, keeps_all, plain_later}
 use Rattle.sg_eval.proofs.answers.other_sign.Goals as goal
 

@@ -9,7 +9,7 @@ use Rattle.sg_rows.specs.declared.fault.CallFault.{CallFault}
 use Rattle.sg_value.specs.Data.{none}
 use Rattle.sg_eval.specs.Folded.{fold_on}
 use Rattle.sg_tree.specs.TreeView.{tree_of, trees_of, links_of, arguments_of}
-use Rattle.sg_eval.specs.Expressions.{eval, eval_all, eval_places, eval_links, eval_given}
+use Rattle.sg_meaning.specs.Expressions.{eval, eval_all, eval_places, eval_links, eval_given}
 use Rattle.sg_eval.specs.Machine.{state_of}
 use Rattle.sg_eval.specs.Outcomes.{Evaluates, plain_in, known_in}
 use Rattle.sg_eval.specs.State.{State}

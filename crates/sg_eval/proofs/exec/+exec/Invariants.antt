@@ -5,10 +5,10 @@ use Rattle.std.proofs.Common.{◌≡◌, ◌≤◌, ◌+◌, ◌-◌, ◌*◌, �
 use Rattle.sg_value.specs.Plain.{AllKnownIn, plain_of_all}
 use Rattle.sg_tree.specs.TreeView.{block_of, arms_of}
 use Rattle.sg_eval.specs.Machine.{state_of}
-use Rattle.sg_eval.specs.Process.{sets}
-use Rattle.sg_eval.specs.Queries.{integers_from}
+use Rattle.sg_meaning.specs.Process.{sets}
+use Rattle.sg_meaning.specs.Entries.{integers_from}
 use Rattle.sg_eval.specs.State.{State}
-use Rattle.sg_eval.specs.Statements.{exec_all, over}
+use Rattle.sg_meaning.specs.Statements.{exec_all, over}
 use Rattle.sg_eval.specs.Steps.{Executed, arm_done}
 use Rattle.sg_eval.specs.declared.step_fault.StepFault.{StepFault}
 use Rattle.sg_eval.proofs.exec.+exec.Given as goal

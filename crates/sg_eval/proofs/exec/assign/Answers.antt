@@ -5,15 +5,15 @@ use Rattle.std.proofs.lemmas.Int.{to_z-of_z}
 use Rattle.sg_value.specs.Data.{int}
 use Rattle.sg_value.specs.declared.value.Value.TheVariants as value
 use Rattle.sg_rows.proofs.Replying.{contents-Int, plain_integer}
-use Rattle.sg_eval.specs.Vars.{with_value}
+use Rattle.sg_meaning.specs.Vars.{with_value}
 use Rattle.sg_eval.proofs.Evaluating.{keeps_all}
 use Rattle.sg_value.specs.Known.{named}
 use Rattle.sg_value.specs.Plain.{AllKnown, plain}
 use Rattle.sg_store.specs.Interned.{Keeps}
 use Rattle.sg_tree.specs.TreeView.{tree_of}
-use Rattle.sg_eval.specs.Expressions.{eval}
+use Rattle.sg_meaning.specs.Expressions.{eval}
 use Rattle.sg_eval.specs.Machine.{state_of}
-use Rattle.sg_eval.specs.Process.{gives, sets, ◌>>=◌}
+use Rattle.sg_meaning.specs.Process.{gives, sets, ◌>>=◌}
 use Rattle.sg_eval.specs.Steps.{Executed}
 use Rattle.sg_eval.proofs.Executing.{at_top, executed_exit, executed_memory, executed_value, executed_sets, executed_gives}
 use Rattle.sg_eval.proofs.exec.assign.Goals as goal

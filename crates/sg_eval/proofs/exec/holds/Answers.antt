@@ -1,8 +1,8 @@
 use Rattle.sg_value.specs.Plain.{AllKnown, plain}
 use Rattle.sg_tree.specs.TreeView.{tree_of}
-use Rattle.sg_eval.specs.Expressions.{eval, decided}
+use Rattle.sg_meaning.specs.Expressions.{eval, decided}
 use Rattle.sg_eval.specs.Machine.{state_of}
-use Rattle.sg_eval.specs.Process.{gives}
+use Rattle.sg_meaning.specs.Process.{gives}
 use Rattle.sg_eval.specs.Truths.{itself, no_semigroup}
 use Rattle.sg_eval.proofs.Evaluating.{evaluates_exit, evaluates_then}
 use Rattle.sg_eval.proofs.exec.holds.Goals as goal

@@ -1,14 +1,14 @@
-use Rattle.sg_eval.specs.declared.entries.Entries.TheVariants as entries
+use Rattle.sg_eval.specs.declared.sequence.Sequence.TheVariants as sequence
 use Rattle.std.proofs.Common.{Ok, ap, sym, ◌∙◌, subst}
 use Rattle.sg_value.specs.Plain.{AllKnown, plain}
 use Rattle.sg_rows.specs.Kinds.{as_list}
 use Rattle.sg_tree.specs.Tree.{span}
 use Rattle.sg_tree.specs.TreeView.{tree_of}
 use Rattle.sg_tree.proofs.ExpressionLevels.{view-Span}
-use Rattle.sg_eval.specs.Expressions.{eval, listed}
+use Rattle.sg_meaning.specs.Expressions.{eval, listed}
 use Rattle.sg_eval.specs.Machine.{state_of}
 use Rattle.sg_eval.specs.Outcomes.{Evaluates, plain_items, known_items}
-use Rattle.sg_eval.specs.Process.{gives, ◌>>=◌}
+use Rattle.sg_meaning.specs.Process.{gives, ◌>>=◌}
 use Rattle.sg_eval.specs.Ranges.{ranged, entries_in, are_known}
 use Rattle.sg_eval.specs.Steps.{listed_of}
 use Rattle.sg_eval.proofs.Evaluating.{evaluates_as, evaluates_exit, evaluates_then, evaluates_on}
@@ -85,5 +85,5 @@ returns c =
     let v = c.in_ok-value.value in
     let ds = c.in_ok-entries.field-0 in
     let h = c.in_ok-value.ensures in
-    evaluates_then plain AllKnown entries_in are_known v (Ok (entries.Listed ds)) s s1 s1 (λ names. eval s.parameters (tree_of c.args.e.now)) (λ names d. listed (as_list d) (λ ds. gives ds)) h
+    evaluates_then plain AllKnown entries_in are_known v (Ok (sequence.Listed ds)) s s1 s1 (λ names. eval s.parameters (tree_of c.args.e.now)) (λ names d. listed (as_list d) (λ ds. gives ds)) h
     (entries_listed ds s1 s1 (λ names. listed (as_list (plain names v)) (λ ds. gives ds)) (c.in_ok-entries.ensures s1 h.is_known))

@@ -1,10 +1,10 @@
 use Rattle.std.proofs.Common.{Ok, [], ◌∙◌}
 use Rattle.sg_value.specs.Plain.{AllKnown, plain}
 use Rattle.sg_tree.specs.TreeView.{tree_of, arguments_of}
-use Rattle.sg_eval.specs.Expressions.{eval}
+use Rattle.sg_meaning.specs.Expressions.{eval}
 use Rattle.sg_eval.specs.Machine.{state_of}
-use Rattle.sg_eval.specs.Process.{gives, ◌>>=◌}
-use Rattle.sg_eval.specs.Statements.{done}
+use Rattle.sg_meaning.specs.Process.{gives, ◌>>=◌}
+use Rattle.sg_meaning.specs.Statements.{done}
 use Rattle.sg_eval.specs.Steps.{print_done}
 use Rattle.sg_eval.proofs.Blocks.{done_printed, done_dropped}
 use Rattle.sg_eval.proofs.Executing.{at_top, executed_as, executed_exit, executed_value, executed_gives}

@@ -4,12 +4,12 @@ use Rattle.sg_rows.specs.declared.fault.Fault.TheVariants.{WrongType}
 use Rattle.sg_value.specs.Plain.{plain_of_all}
 use Rattle.sg_tree.specs.TreeView.{arguments_of}
 use Rattle.sg_eval.specs.declared.step_fault.StepFault.TheVariants.{Script}
-use Rattle.sg_eval.specs.Expressions.{eval_given}
+use Rattle.sg_meaning.specs.Expressions.{eval_given}
 use Rattle.sg_eval.specs.Given.{plain_where, known_where}
 use Rattle.sg_eval.specs.Machine.{state_of}
 use Rattle.sg_eval.specs.Outcomes.{Evaluates}
-use Rattle.sg_eval.specs.Process.{gives, writes, ◌>>=◌}
-use Rattle.sg_eval.specs.Statements.{printed, texts_of}
+use Rattle.sg_meaning.specs.Process.{gives, writes, ◌>>=◌}
+use Rattle.sg_meaning.specs.Statements.{printed, texts_of}
 use Rattle.sg_eval.specs.Steps.{Executed}
 use Rattle.sg_eval.proofs.Executing.{at_top, executed_exit, executed_memory, executed_value, executed_refuses, executed_writes}
 use Rattle.sg_eval.proofs.exec.print.Goals as goal

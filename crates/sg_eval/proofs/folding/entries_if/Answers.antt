@@ -3,7 +3,7 @@ use Rattle.sg_value.specs.Known.{named}
 use Rattle.sg_eval.specs.Folded.{listed_if}
 use Rattle.sg_eval.specs.Given.{plain_if, known_if}
 use Rattle.sg_eval.specs.Outcomes.{Evaluates, plain_items, known_items}
-use Rattle.sg_eval.specs.Process.{gives}
+use Rattle.sg_meaning.specs.Process.{gives}
 use Rattle.sg_eval.proofs.folding.entries_if.Goals as goal
 
 pub returns-in-Some : goal.returns-in-Some

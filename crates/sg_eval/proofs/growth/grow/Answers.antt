@@ -1,6 +1,6 @@
 use Rattle.std.proofs.Common.{Ok, Err, subst}
 use Rattle.sg_tree.specs.TreeView.{arguments_of}
-use Rattle.sg_eval.specs.Expressions.{eval_given}
+use Rattle.sg_meaning.specs.Expressions.{eval_given}
 use Rattle.sg_eval.specs.Given.{plain_where, known_where}
 use Rattle.sg_eval.specs.Growth.{joined_onto, Grows}
 use Rattle.sg_eval.specs.Machine.{state_of}

@@ -8,7 +8,7 @@ use Rattle.sg_value.specs.Plain.{plain}
 use Rattle.sg_value.specs.declared.value.Value.TheVariants as value
 use Rattle.sg_tree.specs.TreeView.{tree_of, links_of}
 use Rattle.sg_eval.specs.AtOnce.{GivesInteger, Calculates}
-use Rattle.sg_eval.specs.Expressions.{eval, eval_links}
+use Rattle.sg_meaning.specs.Expressions.{eval, eval_links}
 use Rattle.sg_eval.specs.Machine.{state_of}
 use Rattle.sg_eval.proofs.AtOnce.{chain_there, link_there, links_over}
 use Rattle.sg_eval.proofs.Steps.{links_of-drop}

@@ -4,7 +4,7 @@ use Rattle.sg_value.specs.declared.value.Value.TheVariants as value
 use Rattle.sg_tree.specs.Tree.{chain}
 use Rattle.sg_tree.specs.TreeView.{tree_of, links_of}
 use Rattle.sg_eval.specs.AtOnce.{GivesInteger}
-use Rattle.sg_eval.specs.Expressions.{eval, eval_links}
+use Rattle.sg_meaning.specs.Expressions.{eval, eval_links}
 use Rattle.sg_eval.specs.Machine.{state_of}
 use Rattle.sg_eval.proofs.integers.chained.Given as goal
 

@@ -6,7 +6,7 @@ use Rattle.sg_tree.specs.Tree.{variable}
 use Rattle.sg_tree.specs.TreeView.{tree_of}
 use Rattle.sg_tree.proofs.ExpressionLevels.{view-Int, view-Var}
 use Rattle.sg_eval.specs.AtOnce.{GivesInteger}
-use Rattle.sg_eval.specs.Expressions.{eval}
+use Rattle.sg_meaning.specs.Expressions.{eval}
 use Rattle.sg_eval.specs.Machine.{state_of}
 use Rattle.sg_eval.proofs.AtOnce.{number_there}
 use Rattle.sg_eval.proofs.integers.operand.Goals as goal

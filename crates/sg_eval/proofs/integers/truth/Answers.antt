@@ -6,7 +6,7 @@ use Rattle.std.specs.Prelude.{FitsSigned, IfSome}
 use Rattle.std.specs.Int.{w64}
 use Rattle.sg_rows.proofs.Signed.{of_bits}
 use Rattle.sg_eval.specs.AtOnce.{GivesTruth, Compares}
-use Rattle.sg_eval.specs.Expressions.{eval}
+use Rattle.sg_meaning.specs.Expressions.{eval}
 use Rattle.sg_eval.specs.Machine.{state_of}
 use Rattle.sg_eval.proofs.AtOnce.{compared_there, if_some}
 use Rattle.sg_eval.proofs.integers.truth.Goals as goal

@@ -2,7 +2,7 @@ use Rattle.std.proofs.Common.{Ok, not, refl, sym, subst}
 use Rattle.sg_value.specs.Plain.{plain}
 use Rattle.sg_eval.specs.Linked.{ends_chain}
 use Rattle.sg_eval.specs.Outcomes.{Evaluates}
-use Rattle.sg_eval.specs.Process.{gives}
+use Rattle.sg_meaning.specs.Process.{gives}
 use Rattle.sg_eval.specs.Truths.{itself, no_semigroup}
 use Rattle.sg_eval.proofs.Deciding.{decided_exit, decided_then}
 use Rattle.sg_eval.proofs.Evaluating.{evaluates_gives}

@@ -1,6 +1,6 @@
 use Rattle.std.proofs.Common.{Ok, refl}
 use Rattle.sg_value.specs.Plain.{AllKnown, plain}
-use Rattle.sg_eval.specs.Process.{gives}
+use Rattle.sg_meaning.specs.Process.{gives}
 use Rattle.sg_eval.proofs.Deciding.{decided_exit, decided_then}
 use Rattle.sg_eval.proofs.Evaluating.{evaluates_gives}
 use Rattle.sg_eval.proofs.links.truth_itself.Goals as goal

@@ -1,8 +1,8 @@
 use Rattle.std.proofs.Common.{◌≡◌, ◌+◌, ◌-◌, suc, Ok, refl, sym, subst, arith}
 use Rattle.sg_value.specs.Plain.{AllKnown, plain}
-use Rattle.sg_eval.specs.Expressions.{negated, ask}
+use Rattle.sg_meaning.specs.Expressions.{negated, ask}
 use Rattle.sg_eval.specs.Outcomes.{Evaluates}
-use Rattle.sg_eval.specs.Queries.{negates}
+use Rattle.sg_meaning.specs.Queries.{negates}
 use Rattle.sg_eval.proofs.Evaluating.{evaluates_exit, evaluates_then, evaluates_gives}
 use Rattle.sg_eval.proofs.signs.negated.Goals as goal
 

@@ -3,7 +3,7 @@ use Rattle.sg_value.specs.Known.{named}
 use Rattle.sg_value.specs.Plain.{AllKnown, plain}
 use Rattle.sg_value.specs.declared.value.Value.{Value}
 use Rattle.sg_rows.specs.declared.fault.CallFault.{CallFault}
-use Rattle.sg_eval.specs.Expressions.{negated}
+use Rattle.sg_meaning.specs.Expressions.{negated}
 use Rattle.sg_eval.specs.Outcomes.{Evaluates}
 use Rattle.sg_eval.specs.State.{State}
 use Rattle.sg_eval.proofs.signs.negated.Given as goal

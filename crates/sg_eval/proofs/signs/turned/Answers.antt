@@ -2,8 +2,8 @@ use Rattle.std.proofs.Common.{Ok}
 use Rattle.sg_value.specs.Data.{truth}
 use Rattle.sg_value.specs.Plain.{AllKnown, plain}
 use Rattle.sg_value.specs.declared.value.Value.TheVariants as value
-use Rattle.sg_eval.specs.Expressions.{turned}
-use Rattle.sg_eval.specs.Process.{gives}
+use Rattle.sg_meaning.specs.Expressions.{turned}
+use Rattle.sg_meaning.specs.Process.{gives}
 use Rattle.sg_eval.proofs.Deciding.{decided_exit, decided_then, evaluates_truth}
 use Rattle.sg_eval.proofs.signs.turned.Goals as goal
 

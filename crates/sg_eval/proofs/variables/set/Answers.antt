@@ -1,7 +1,7 @@
 use Rattle.std.proofs.Common.{ap, sym, ◌∙◌, subst}
 use Rattle.sg_value.specs.Known.{named}
 use Rattle.sg_eval.specs.State.{values_of, AreKnownIn}
-use Rattle.sg_eval.specs.Vars.{with_value}
+use Rattle.sg_meaning.specs.Vars.{with_value}
 use Rattle.sg_value.specs.Plain.{plain}
 use Rattle.sg_eval.proofs.Named.{values-set, values-insert, values-set_at, known-set, known-insert, known-set_at}
 use Rattle.sg_eval.proofs.variables.set.Goals as goal

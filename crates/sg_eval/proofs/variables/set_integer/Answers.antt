@@ -8,7 +8,7 @@ use Rattle.sg_value.specs.Plain.{plain}
 use Rattle.sg_value.specs.declared.value.Value.TheVariants as value
 use Rattle.sg_rows.proofs.Replying.{contents-Int}
 use Rattle.sg_eval.specs.State.{values_of, AreKnownIn}
-use Rattle.sg_eval.specs.Vars.{with_value}
+use Rattle.sg_meaning.specs.Vars.{with_value}
 use Rattle.sg_eval.proofs.AtOnce.{on_ok, integer_set, is_integer_known}
 use Rattle.sg_eval.proofs.Named.{values-set_at, known-set_at}
 use Rattle.sg_eval.proofs.variables.set_integer.Goals as goal

@@ -1,15 +1,9 @@
-use Rattle.std.proofs.Common.{◌≡◌, ℕ, ◌+◌, ◌-◌, ◌*◌, ◌≤◌, ◌⊎◌, ◌↔◌, ◌++◌, List, length, take, drop, sym, ap, subst, ◌∙◌, refl, true, rules, arith}
-use lib.Pointwise.{pointwise}
-use lib.Dec.{eqb}
-use Rattle.sg_apery.specs.Classes.{IsAboveEntry}
-use Rattle.sg_apery.proofs.LeastLemmas.{writes-back}
+use Rattle.std.proofs.Common.{◌≡◌, ℕ, ◌+◌, ◌-◌, ◌*◌, ◌≤◌, ◌⊎◌, ◌↔◌, ◌++◌, List, length, take, drop, sym, ap, subst, ◌∙◌, refl, arith}
+use Rattle.sg_classes.specs.Classes.{IsAboveEntry}
+use Rattle.sg_classes.proofs.LoweredLemmas.{writes-back}
 use Rattle.sg_ideal.specs.Classes.{AreClasses, IsReach}
-use Rattle.sg_ideal.proofs.ReachLemmas.{reach-more, reach-stays}
+use Rattle.sg_ideal.proofs.ReachLemmas.{reach-more, reach-stays, same-slices}
 use Rattle.sg_ideal.proofs.classes.reach.Goals as goal
-
--- lists that compare as equal are equal
-slices : (x y : List ℕ) → true ≡ pointwise eqb x y → x ≡ y
-slices x y e = search rules
 
 -- the step, where the set stands twice and the new one is written back
 step : (t items list other new : List ℕ) (b k more n : ℕ) → list ≡ items → other ≡ items → n ≡ length new → more ≤ k + 1 → length new ≡ length list → AreClasses new →
@@ -54,7 +48,7 @@ returns-then-eq c =
     let len : c.loop-reached.list.len ≡ length new = omega arith in
     let written = take c.loop-reached.list.len (new ++ drop (length new) items) in
     let same : items ≡ written =
-    sym (sym c.as_slice.ensures.value ∙ slices c.as_slice.result.now c.as_slice-in-loop-reached.result.now c.if-eq.ensures ∙ c.as_slice-in-loop-reached.ensures.value ∙ c.in_ok-before.ensures.items ∙ c.deref.ensures.value) in
+    sym (sym c.as_slice.ensures.value ∙ same-slices c.as_slice.result.now c.as_slice-in-loop-reached.result.now c.if-eq.ensures ∙ c.as_slice-in-loop-reached.ensures.value ∙ c.in_ok-before.ensures.items ∙ c.deref.ensures.value) in
     let r = subst (IsReach t b k) same c.loop-reached.invariant.reach in
     let s = step t items c.deref_mut.result.now c.deref-in-loop-reached.result.now new b k more c.loop-reached.list.len value copy len (omega (arith, least, test)) c.extend.ensures.long
     c.extend.ensures.classes c.extend.ensures.same c.loop-reached.invariant.reach in

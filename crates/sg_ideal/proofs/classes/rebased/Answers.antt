@@ -1,6 +1,6 @@
 use Rattle.std.proofs.Common.{◌≡◌, ℕ, ◌+◌, ◌↔◌, ◌∙◌, length, sym, ap, subst, arith}
-use Rattle.sg_apery.specs.Classes.{IsAboveEntry}
-use Rattle.sg_apery.proofs.LeastLemmas.{writes-back}
+use Rattle.sg_classes.specs.Classes.{IsAboveEntry}
+use Rattle.sg_classes.proofs.LoweredLemmas.{writes-back}
 use Rattle.sg_ideal.specs.Classes.{IsRebased}
 use Rattle.sg_ideal.proofs.ReduceLemmas.{rebased-narrowed}
 use Rattle.sg_ideal.proofs.classes.rebased.Goals as goal

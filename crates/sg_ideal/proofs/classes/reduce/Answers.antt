@@ -1,8 +1,8 @@
 use Rattle.std.proofs.Common.{◌≡◌, ℕ, ◌+◌, length, get_or, sym, ap, subst, ◌∙◌, arith, pos, ◌-ℤ◌, to_z, of_z, w64}
 use Rattle.std.specs.Prelude.{nat_abs, ◌↔◌}
-use Rattle.sg_apery.specs.Classes.{IsAboveEntry}
+use Rattle.sg_classes.specs.Classes.{IsAboveEntry}
 use Rattle.std.proofs.lemmas.Int.{ints}
-use Rattle.sg_apery.proofs.LeastLemmas.{writes-back}
+use Rattle.sg_classes.proofs.LoweredLemmas.{writes-back}
 use Rattle.sg_ideal.proofs.SpreadLemmas.{generator-placed}
 use Rattle.sg_ideal.proofs.ReduceLemmas.{IsReducedSoFar, reduced-more, reduced-all}
 use Rattle.sg_ideal.proofs.classes.reduce.Goals as goal

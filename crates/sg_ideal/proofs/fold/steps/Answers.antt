@@ -1,21 +1,16 @@
-use Rattle.std.proofs.Common.{◌≡◌, ℕ, ◌+◌, ◌-◌, ◌∙◌, List, get_or, sym, subst, ℤ, pos, to_z, of_z, w64, rules, true, arith}
-use lib.Pointwise.{pointwise}
-use lib.Dec.{eqb}
+use Rattle.std.proofs.Common.{◌≡◌, ℕ, ◌+◌, ◌-◌, ◌∙◌, List, get_or, sym, subst, ℤ, pos, to_z, of_z, w64, arith}
 use Rattle.sg_ideal.specs.Classes.{IsSpread}
 use Rattle.sg_ideal.specs.Value.{IsLeast}
 use Rattle.sg_lawful.specs.Generators.{IsSmall}
 use Rattle.sg_ideal.proofs.FoldLemmas.{IsFold, fold-one, fold-more, fold-stays}
 use Rattle.sg_ideal.proofs.PairLemmas.{passed-least, passed-spread}
+use Rattle.sg_ideal.proofs.ReachLemmas.{same-slices}
 use Rattle.sg_ideal.proofs.fold.steps.Goals as goal
 
 -- what was spread, from the first generator on
 spread_of : (s t next : List ℕ) (I L : List ℤ) (l : ℤ) → s ≡ t → L ≡ I → IsSmall l → l ≡ get_or I 0 (pos 0) → IsSpread s (to_z w64 (of_z w64 l)) L next → IsSpread t (get_or I 0 (pos 0)) I next
 spread_of s t next I L l d e small first h =
     subst (λ t. IsSpread t (get_or I 0 (pos 0)) I next) d (subst (λ b. IsSpread s b I next) first (passed-spread s next I L l e small h))
-
--- lists that compare as equal are equal
-slices : (x y : List ℕ) → true ≡ pointwise eqb x y → x ≡ y
-slices x y e = search rules
 
 pub loop-folds-init : goal.loop-folds-init
 loop-folds-init c = fold-one c.args.a.now c.entries.result.now c.in_ok-list.list.items c.entries.ensures c.in_ok-list.ensures.items
@@ -39,7 +34,7 @@ returns-then-eq-clause-same c =
     let next = c.in_ok-next.next.items in
     let s = spread_of c.deref.result.now list next J.generators c.generators.result.now c.least.result c.deref.ensures.value c.generators.ensures.same c.least.ensures.small c.least.ensures.first c.in_ok-next.ensures in
     let least = subst (IsLeast J.generators) c.least.ensures.first c.least.ensures.least in
-    let same : next ≡ list = sym c.as_slice.ensures.value ∙ slices c.as_slice.result.now c.as_slice-in-loop-folds.result.now c.if-eq.ensures ∙ c.as_slice-in-loop-folds.ensures.value in
+    let same : next ≡ list = sym c.as_slice.ensures.value ∙ same-slices c.as_slice.result.now c.as_slice-in-loop-folds.result.now c.if-eq.ensures ∙ c.as_slice-in-loop-folds.ensures.value in
     let j = c.loop-folds._folds in
     let t = c.loop-folds-test.true in
     let e : j + (c.args.k - j) ≡ c.args.k = omega arith in

@@ -1,5 +1,5 @@
 use Rattle.std.proofs.Common.{ℕ, ◌<◌, ◌≤◌, ◌-◌, slice_index}
-use Rattle.sg_apery.specs.Classes.{IsAboveEntry}
+use Rattle.sg_classes.specs.Classes.{IsAboveEntry}
 use Rattle.sg_ideal.proofs.heads.is_free.Given as goal
 
 -- none so far leads to the number

@@ -1,12 +1,13 @@
 use Rattle.std.proofs.Common.{◌≡◌, ℕ, ◌≤◌, ◌^◌, refl, ℤ, pos, neg_ℤ, ◌+ℤ◌, ◌≤ℤ◌, to_z, of_z, w64, arith}
 use Rattle.std.proofs.lemmas.Int.{ints}
+use Rattle.sg_classes.specs.declared.limits.TheConstants.{APERY_ENTRY_LIMIT}
 use Rattle.sg_ideal.specs.Classes.{IsFrom}
 use Rattle.sg_ideal.proofs.ClosedLemmas.{rebased-table, rebased-from}
 use Rattle.sg_ideal.proofs.FinishLemmas.{finish-made, finish-refused}
 use Rattle.sg_ideal.proofs.made.from_classes.Goals as goal
 
 -- the new base as it is passed
-passed : (base : ℤ) (least : ℕ) → neg_ℤ (pos (2 ^ 34)) ≤ℤ base → base ≤ℤ pos (2 ^ 34) → least ≤ 2 ^ 52 → to_z w64 (of_z w64 (to_z w64 (of_z w64 base) +ℤ to_z w64 least)) ≡ base +ℤ pos least
+passed : (base : ℤ) (least : ℕ) → neg_ℤ (pos (2 ^ 34)) ≤ℤ base → base ≤ℤ pos (2 ^ 34) → least ≤ APERY_ENTRY_LIMIT → to_z w64 (of_z w64 (to_z w64 (of_z w64 base) +ℤ to_z w64 least)) ≡ base +ℤ pos least
 passed base least low high small = omega (arith, ints, low, high, small)
 
 pub from_table-requires : goal.from_table-requires

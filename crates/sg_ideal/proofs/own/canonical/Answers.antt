@@ -2,7 +2,7 @@ use Rattle.std.proofs.Common.{◌≡◌, List, sym, subst, ℤ, pos, negsuc, ◌
 use Rattle.std.proofs.lemmas.Int.{ints}
 use Rattle.std.proofs.lemmas.Result.{IfOk-weaker, IfErr-weaker}
 use Rattle.sg_defs.specs.Ideals.{IsIdealMember, IsInCanonical}
-use Rattle.sg_apery.specs.Limits.{APERY_ENTRY_LIMIT}
+use Rattle.sg_classes.specs.declared.limits.TheConstants.{APERY_ENTRY_LIMIT}
 use Rattle.sg_ideal.specs.Faults.{AreRefused, IsSizeFault}
 use Rattle.sg_ideal.specs.Value.{AreWithin, IsIdealOf, IsReflected}
 use Rattle.sg_ideal.proofs.FaultLemmas.{ideal-same, some-faults}

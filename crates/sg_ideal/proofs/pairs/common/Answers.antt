@@ -1,8 +1,8 @@
 use Rattle.std.proofs.Common.{◌≡◌, ℕ, ◌+◌, ◌↔◌, List, length, get_or, sym, ap, subst, ◌∙◌, arith, ℤ, pos, ◌-ℤ◌, ◌≤ℤ◌, to_z, of_z, w64}
 use Rattle.std.specs.Prelude.{nat_abs}
 use Rattle.std.proofs.lemmas.Int.{ints}
-use Rattle.sg_apery.specs.Classes.{IsAboveEntry}
-use Rattle.sg_apery.proofs.LeastLemmas.{writes-back}
+use Rattle.sg_classes.specs.Classes.{IsAboveEntry}
+use Rattle.sg_classes.proofs.LoweredLemmas.{writes-back}
 use Rattle.sg_ideal.specs.Value.{IsIn, IsInBoth}
 use Rattle.sg_lawful.specs.Generators.{IsSmall}
 use Rattle.sg_ideal.specs.Classes.{IsClosedTable, IsFrom}

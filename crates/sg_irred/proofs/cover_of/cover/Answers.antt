@@ -3,7 +3,7 @@ use Rattle.std.proofs.lemmas.Int.{ints}
 use Rattle.std.proofs.lemmas.Result.{IfOk-weaker}
 use Rattle.sg_defs.specs.Membership.{Generates}
 use Rattle.sg_defs.specs.Decomposition.{IsInCover}
-use Rattle.sg_apery.specs.Classes.{IsAboveEntry}
+use Rattle.sg_classes.specs.Classes.{IsAboveEntry}
 use Rattle.sg_apery.specs.Conditions.{IsAperyRefused}
 use Rattle.sg_irred.specs.Cover.{IsCoverList}
 use Rattle.sg_irred.proofs.CoverLemmas.{list-kunz, list-generates, list-fits}

@@ -2,7 +2,8 @@ use Rattle.std.proofs.Common.{◌≡◌, ◌+◌, ◌<◌, subst, arith}
 use Rattle.sg_defs.specs.Listings.{Lists}
 use Rattle.sg_small.specs.Modular.{IsProportional}
 use Rattle.sg_small.proofs.FundamentalLemmas.{not_true}
-use Rattle.sg_small.proofs.ListingLemmas.{lists-skip, lists-push, listed-small, listed-same}
+use Rattle.sg_classes.proofs.ListingLemmas.{lists-skip, lists-push}
+use Rattle.sg_small.proofs.ListedLemmas.{listed-small, listed-same}
 use Rattle.sg_small.proofs.ModularLemmas.{proportional-zero, proportional-above, proportional-reduced}
 use Rattle.sg_small.proofs.modular.members_up_to.Goals as goal
 use Rattle.sg_small.proofs.modular.members_up_to.Goals.{then-is_proportional+in_ok-push, else-is_proportional}
@@ -16,9 +17,9 @@ loop-x-preserved c =
     let x = c.loop-x.x in
     elim c.if-is_proportional.branch [
       | then-is_proportional+in_ok-push w ↦
-          rw (w.list-is, w.in_ok-push.ensures.items) (lists-push P list x c.loop-x.invariant ((proportional-reduced a b c.args.c x).0 (c.is_proportional.ensures.0 w.if-is_proportional.true)))
+          rw (w.list-is, w.in_ok-push.ensures.items) (lists-push P x list ((proportional-reduced a b c.args.c x).0 (c.is_proportional.ensures.0 w.if-is_proportional.true)) c.loop-x.invariant)
       | else-is_proportional w ↦
-          rw w.list-is (lists-skip P list x c.loop-x.invariant (λ p. not_true c.is_proportional.result w.if-is_proportional.false (c.is_proportional.ensures.1 ((proportional-reduced a b c.args.c x).1 p))))
+          rw w.list-is (lists-skip P x list (λ p. not_true c.is_proportional.result w.if-is_proportional.false (c.is_proportional.ensures.1 ((proportional-reduced a b c.args.c x).1 p))) c.loop-x.invariant)
     ]
 
 pub returns-clause-list : goal.returns-clause-list

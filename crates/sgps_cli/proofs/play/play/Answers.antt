@@ -1,50 +1,51 @@
-use Rattle.std.proofs.Common.{[], refl, sym, ap, subst, ◌∙◌, arith}
-use Rattle.std.specs.Prelude.{Ok}
+use Rattle.std.proofs.Common.{refl, ◌∙◌, arith}
 use Rattle.sg_eval.specs.Machine.{state_of}
-use Rattle.sgps_cli.proofs.Turning.{IsPlayedTo, played-none, unchanged, written-twice, goes-on, stops-so, left-so, left-result, feeds-fit}
+use Rattle.sgps_cli.specs.Playing.{Begun}
+use Rattle.sgps_cli.proofs.Turning.{reached-at-first, without-window}
+use Rattle.sgps_cli.proofs.Measured.{counted-fits}
 use Rattle.sgps_cli.proofs.play.play.Goals as goal
 
-pub loop-machine-init : goal.loop-machine-init
-loop-machine-init g c = record {
-  fits = omega (arith, c.requires);
-  played = ([], unchanged _, subst (λ v. IsPlayedTo c.args.whole c.args.script.now c.args.script.now 0 v []) (sym c.new-machine.ensures.variables) (played-none c.args.whole c.args.script.now));
-  later = omega arith;
-  sure = refl;
-}
+pub take_turn-requires-clause-fits : goal.take_turn-requires-clause-fits
+take_turn-requires-clause-fits g c = counted-fits c.loop-now.invariant.reached
 
-pub loop-machine-preserved : goal.loop-machine-preserved
-loop-machine-preserved g c =
-    let so = c.loop-machine.invariant.played in
-    let did = c.take_turn.ensures.turns in
+pub returns-in-Err-clause-plays : goal.returns-in-Err-clause-plays
+returns-in-Err-clause-plays g c =
+    without-window (record { keep = c.args.keep; all = g.S.Source.left c.args.source.now; sinks = record { on_out = g.W.Sink.taken c.args.out.now; on_err = g.E.Sink.taken c.args.err.now } })
+
+pub loop-now-init : goal.loop-now-init
+loop-now-init g c =
+    let b : Begun = record { keep = c.args.keep; all = g.S.Source.left c.args.source.now; sinks = record { on_out = g.W.Sink.taken c.args.out.now; on_err = g.E.Sink.taken c.args.err.now } } in
     record {
-      fits = feeds-fit c.loop-machine.feeds c.in-Goes.end c.line_feeds-feeds.result c.loop-machine.rest.now c.split_at.result.0.now c.split_at.result.1.now
-          c.loop-machine.invariant.fits c.split_at.ensures.front_len c.split_at.ensures.back_len c.line_feeds-feeds.ensures;
-      played = (
-        _,
-        written-twice _ _ _ so.0 did.0 so.1 did.1,
-        goes-on c.args.whole c.args.script.now c.loop-machine.rest.now c.loop-machine.feeds (state_of c.loop-machine.machine).variables (state_of c.take_turn.new.machine).variables so.0 did.0 c.take_turn.result c.in-Goes.end c.line_feeds-feeds.result c.split_at.result.0.now c.split_at.result.1.now (c.in_ok-end.was ∙ ap Ok c.in-Goes.is) did.2 so.2
-            c.split_at.ensures.front c.split_at.ensures.back c.line_feeds-feeds.ensures,
-      );
-      later = omega (arith, c.loop-machine.invariant.later, c.take_turn.ensures.cause.later);
-      sure = c.take_turn.ensures.sure ∙ c.loop-machine.invariant.sure;
+      reached = reached-at-first b c.in-Ok.window (state_of c.new-machine.result).variables c.in-Ok.ensures c.new-machine.ensures.variables;
+      begun = c.requires;
+      source_later = omega arith;
+      out_later = omega arith;
+      err_later = omega arith;
+      missing = refl;
+      inputs = refl;
+      source_sure = refl;
+      out_sure = refl;
+      err_sure = refl;
     }
 
-pub returns-in_err-end-clause-plays : goal.returns-in_err-end-clause-plays
-returns-in_err-end-clause-plays g c =
-    let so = c.loop-machine.invariant.played in
-    let did = c.take_turn.ensures.turns in
-    let l = left-so c.args.whole c.args.script.now c.loop-machine.rest.now c.loop-machine.feeds (state_of c.loop-machine.machine).variables (state_of c.take_turn.new.machine).variables so.0 did.0 c.take_turn.result c.in_err-end.field-0.0 c.in_err-end.was did.2 so.2 in (
-      _,
-      written-twice _ _ _ so.0 did.0 so.1 did.1,
-      left-result c.from_residual.result c.args.script.now c.args.whole _ c.from_residual.ensures.0 l,
-    )
+pub loop-now-preserved : goal.loop-now-preserved
+loop-now-preserved g c =
+    let b : Begun = record { keep = c.args.keep; all = g.S.Source.left c.args.source.now; sinks = record { on_out = g.W.Sink.taken c.args.out.now; on_err = g.E.Sink.taken c.args.err.now } } in
+    let i = c.loop-now.invariant in
+    let e = c.in-Goes.ensures in
+    record {
+      reached = e.turns b i.reached;
+      begun = e.begun;
+      source_later = omega (arith, i.source_later, e.source_faults);
+      out_later = omega (arith, i.out_later, e.out_faults);
+      err_later = omega (arith, i.err_later, e.err_faults);
+      missing = e.missing ∙ i.missing;
+      inputs = e.inputs ∙ i.inputs;
+      source_sure = e.source_sure ∙ i.source_sure;
+      out_sure = e.out_sure ∙ i.out_sure;
+      err_sure = e.err_sure ∙ i.err_sure;
+    }
 
 pub returns-in-Stops-clause-plays : goal.returns-in-Stops-clause-plays
 returns-in-Stops-clause-plays g c =
-    let so = c.loop-machine.invariant.played in
-    let did = c.take_turn.ensures.turns in
-    let p = stops-so c.args.whole c.args.script.now c.loop-machine.rest.now c.loop-machine.feeds (state_of c.loop-machine.machine).variables (state_of c.take_turn.new.machine).variables so.0 did.0 c.take_turn.result c.in-Stops.verdict (c.in_ok-end.was ∙ ap Ok c.in-Stops.is) did.2 so.2 in (
-      _,
-      written-twice _ _ _ so.0 did.0 so.1 did.1,
-      p,
-    )
+    c.in-Stops.ensures.turns (record { keep = c.args.keep; all = g.S.Source.left c.args.source.now; sinks = record { on_out = g.W.Sink.taken c.args.out.now; on_err = g.E.Sink.taken c.args.err.now } }) c.loop-now.invariant.reached

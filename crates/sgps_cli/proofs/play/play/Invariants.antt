@@ -1,20 +1,26 @@
-use Rattle.std.proofs.Common.{◌≡◌, ◌≤◌, ◌+◌, ℕ, List, length}
-use Rattle.std.specs.Io.KnownBytes.{append_known}
-use Rattle.sg_cut.specs.declared.limits.TheConstants.{SCRIPT_LIMIT}
+use Rattle.std.proofs.Common.{◌≡◌, ◌≤◌, true}
 use Rattle.sg_eval.specs.Machine.{state_of}
-use Rattle.sgps_cli.proofs.Turning.{IsPlayedTo}
+use Rattle.sgps_cli.specs.Playing.{IsReached, work_of}
 use Rattle.sgps_cli.proofs.play.play.Given as goal
 
--- the script was played up to the rest, and `out` took its text
-abbrev pub invariant-loop-machine : goal.invariant-loop-machine
-invariant-loop-machine g l =
-    let sink = g.W.Sink in
+-- the play has come so far, and nothing else of the source and the sinks changed
+abbrev pub invariant-loop-now : goal.invariant-loop-now
+invariant-loop-now g l =
+    let source = g.S.Source in
+    let out = g.W.Sink in
+    let err = g.E.Sink in
     record {
-      fits : l.feeds + length l.rest ≤ SCRIPT_LIMIT;
-      played : (gained : List ℕ) × (sink.taken l.out ≡ append_known (sink.taken l.fn.out) gained) × IsPlayedTo l.fn.whole l.fn.script l.rest l.feeds (state_of l.machine).variables gained;
-      later : sink.faults l.fn.out ≤ sink.faults l.out;
-      sure : sink.sure l.out ≡ sink.sure l.fn.out;
+      reached : IsReached (record { keep = l.fn.keep; all = source.left l.fn.source; sinks = record { on_out = out.taken l.fn.out; on_err = err.taken l.fn.err } }) l.window (state_of l.machine).variables l.passed (source.left l.source) (record { on_out = out.taken l.out; on_err = err.taken l.err });
+      begun : source.begun l.source ≡ true;
+      source_later : source.faults l.fn.source ≤ source.faults l.source;
+      out_later : out.faults l.fn.out ≤ out.faults l.out;
+      err_later : err.faults l.fn.err ≤ err.faults l.err;
+      missing : source.missing l.source ≡ source.missing l.fn.source;
+      inputs : source.inputs l.source ≡ source.inputs l.fn.source;
+      source_sure : source.sure l.source ≡ source.sure l.fn.source;
+      out_sure : out.sure l.out ≡ out.sure l.fn.out;
+      err_sure : err.sure l.err ≡ err.sure l.fn.err;
     }
 
-abbrev pub decreases-loop-machine : goal.decreases-loop-machine
-decreases-loop-machine g l = length l.rest
+abbrev pub decreases-loop-now : goal.decreases-loop-now
+decreases-loop-now g l = work_of l.window

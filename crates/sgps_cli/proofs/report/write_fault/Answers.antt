@@ -1,8 +1,8 @@
 use Rattle.std.proofs.Common.{◌++◌}
 use Rattle.std.specs.Prelude.{codes, decimal}
 use Rattle.std.proofs.lemmas.Result.{on_ok_weaker}
-use Rattle.sgps_cli.specs.Causes.{name_of}
-use Rattle.sgps_cli.proofs.Turning.{written-twice}
+use Rattle.sg_play.specs.FaultLines.{name_of}
+use Rattle.sgps_cli.proofs.Written.{written-twice}
 use Rattle.sgps_cli.proofs.Lines.{front-more, front-after}
 use Rattle.sgps_cli.proofs.report.write_fault.Goals as goal
 

@@ -1,7 +1,7 @@
 use Rattle.std.proofs.Common.{◌++◌, subst}
 use Rattle.std.specs.Prelude.{codes}
 use Rattle.sg_io.specs.Faults.{AppendsFront}
-use Rattle.sgps_cli.specs.Causes.{name_of}
+use Rattle.sg_play.specs.FaultLines.{name_of}
 use Rattle.sgps_cli.proofs.Lines.{front-more, front-after}
 use Rattle.sgps_cli.proofs.report.write_name.Goals as goal
 

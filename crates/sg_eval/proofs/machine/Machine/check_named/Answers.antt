@@ -1,7 +1,7 @@
 use Rattle.std.proofs.Common.{Err, Ok, refl}
 use Rattle.std.specs.Map.{lookup}
 use Rattle.std.specs.Str.{bytes_eq}
-use Rattle.sg_eval.specs.Expressions.{looked_up}
+use Rattle.sg_meaning.specs.Expressions.{looked_up}
 use Rattle.sg_eval.specs.Machine.{state_of}
 use Rattle.sg_eval.proofs.Borrowed.{found_over, finds_exit, value_at_place}
 use Rattle.sg_eval.proofs.machine.Machine.check_named.Goals as goal

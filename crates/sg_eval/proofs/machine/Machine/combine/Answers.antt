@@ -6,7 +6,7 @@ use Rattle.sg_rows.specs.Order.{IsReply}
 use Rattle.sg_eval.specs.Machine.{state_of}
 use Rattle.sg_eval.specs.State.{vars_of, values_of}
 use Rattle.sg_eval.proofs.Named.{known_in_later, values_later}
-use Rattle.sg_eval.specs.Queries.{combines}
+use Rattle.sg_meaning.specs.Queries.{combines}
 use Rattle.sg_eval.proofs.Evaluating.{evaluates_reply, keeps_then, plain_later}
 use Rattle.sg_eval.proofs.Later.{are_known_later, vars_later}
 use Rattle.sg_eval.proofs.machine.Machine.combine.Goals as goal

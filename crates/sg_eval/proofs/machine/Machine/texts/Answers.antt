@@ -3,7 +3,7 @@ use Rattle.sg_value.specs.Known.{named}
 use Rattle.std.proofs.lemmas.List.{drop_all}
 use Rattle.sg_value.specs.Plain.{plain, plain_of_all}
 use Rattle.sg_value.specs.Text.{text_of}
-use Rattle.sg_eval.specs.Statements.{texts_of}
+use Rattle.sg_meaning.specs.Statements.{texts_of}
 use Rattle.sg_eval.proofs.FoldLoop.{plain_of_all-drop, known_at}
 use Rattle.sg_eval.proofs.machine.Machine.texts.Goals as goal
 

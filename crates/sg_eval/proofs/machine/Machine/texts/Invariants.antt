@@ -1,7 +1,7 @@
 use Rattle.std.proofs.Common.{◌≡◌, ◌++◌, drop}
 use Rattle.sg_value.specs.Known.{named}
 use Rattle.sg_value.specs.Plain.{plain_of_all}
-use Rattle.sg_eval.specs.Statements.{texts_of}
+use Rattle.sg_meaning.specs.Statements.{texts_of}
 use Rattle.sg_eval.proofs.machine.Machine.texts.Given as goal
 
 -- with the texts that are left it is all

@@ -1,7 +1,7 @@
 use Rattle.std.proofs.Common.{◌↔◌, get_or, ap, subst, pos, to_z, of_z, w64}
 use Rattle.std.specs.Int.Signed.{le_z}
 use Rattle.std.specs.Prelude.{IsTrue}
-use Rattle.sg_apery.specs.Classes.{IsAboveEntry}
+use Rattle.sg_classes.specs.Classes.{IsAboveEntry}
 use Rattle.sg_ideal.specs.Value.{IsIn}
 use Rattle.sg_ideal.proofs.ContainsLemmas.{contains-above, contains-below}
 use Rattle.sg_ideal.proofs.ideal.Ideal.contains.Goals as goal

@@ -1,7 +1,7 @@
 use Rattle.std.proofs.Common.{slice_get, IsSome, ap, sym, ◌∙◌, subst}
 use Rattle.std.specs.List.{IsDistinct}
 use Rattle.sg_value.specs.Known.{Known}
-use Rattle.sg_store.specs.Fit.{IsStoredIdeal}
+use Rattle.sg_store.specs.Fit.{IsLawfulRelative}
 use Rattle.sg_store.specs.Held.{lists_of, known_by, same_ideal_key, AllIdealsFit, IsFitKey}
 use Rattle.sg_store.specs.Interned.{IsIdealInterned}
 use Rattle.sg_store.specs.Keyed.{ideal_over}
@@ -27,7 +27,7 @@ invariant_of-self-2 c =
     let k : IdealKey = record { ambient = c.args.ambient; list = c.args.gens } in
     let known : IsFitKey (lists_of keys) k = record {
       ambient = subst (λ (l : Known). IsSome (slice_get l.semigroups c.args.ambient)) (sym c.self.view_is) c.requires.known;
-      fit = subst (λ (l : Known). IsStoredIdeal (ideal_over l c.args.ambient c.args.gens)) (sym c.self.view_is) c.requires.fit;
+      fit = subst (λ (l : Known). IsLawfulRelative (ideal_over l c.args.ambient c.args.gens)) (sym c.self.view_is) c.requires.fit;
     } in
     record {
       fit = c.self.invariant.fit;
@@ -45,7 +45,7 @@ returns-clause-interned c =
     let k : IdealKey = record { ambient = c.args.ambient; list = c.args.gens } in
     let known : IsFitKey (lists_of keys) k = record {
       ambient = subst (λ (l : Known). IsSome (slice_get l.semigroups c.args.ambient)) (sym c.self.view_is) c.requires.known;
-      fit = subst (λ (l : Known). IsStoredIdeal (ideal_over l c.args.ambient c.args.gens)) (sym c.self.view_is) c.requires.fit;
+      fit = subst (λ (l : Known). IsLawfulRelative (ideal_over l c.args.ambient c.args.gens)) (sym c.self.view_is) c.requires.fit;
     } in
     let stored = c.in_ok-index.ensures.stored in
     let after = c.in_ok-index.ensures.keys in

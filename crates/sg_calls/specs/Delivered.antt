@@ -1,0 +1,30 @@
+-- What rows made, as values over a store.
+use Rattle.std.specs.Prelude.{◌≡◌, ℕ, length, Result, Ok, Err}
+use Rattle.sg_value.specs.Known.{Known, named}
+use Rattle.sg_value.specs.Plain.{AllKnown, plain}
+use Rattle.sg_value.specs.declared.value.Value.{Value}
+use Rattle.sg_rows.specs.Made.{datum}
+use Rattle.sg_rows.specs.Order.{InBits, fits}
+use Rattle.sg_rows.specs.Replies.{Replies}
+use Rattle.sg_rows.specs.Values.{answers}
+use Rattle.sg_rows.specs.declared.fault.CallFault.{CallFault}
+use Rattle.sg_rows.specs.declared.made.Made.{Made}
+use Rattle.sg_rows.specs.declared.made.Made.TheVariants.{Integers, Naturals, Semigroups}
+
+-- the value stands for what was made, and each id in it is known
+pub record IsValueOf (store : Known) (m : Made) (v : Value) : Type 0 where
+  pub is : plain (named store) v ≡ datum m
+  pub known : AllKnown (named store) v
+  pub bits : InBits (datum m)
+
+-- the number of entries, where it is a list
+abbrev pub entries_made : Made → ℕ
+entries_made (Integers zs) = length zs
+entries_made (Naturals ns) = length ns
+entries_made (Semigroups L) = length L
+entries_made _ = 0
+
+-- what was made is the reply, or its refusal where it is too heavy; else it is the refusal of the row
+abbrev pub IsDelivered : Result Made CallFault → Known → Result Value CallFault → Type 0
+IsDelivered (Ok m) store r = Replies r store (fits (answers (λ d. d ≡ datum m)))
+IsDelivered (Err e) store r = r ≡ Err e

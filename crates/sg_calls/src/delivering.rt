@@ -1,0 +1,133 @@
+//! What rows made, as values over a store: the one place where semigroups and ideals get their ids.
+
+ghost use Rattle.std.specs.Prelude.{◌≡◌, ◌<◌, ◌^◌, ℕ, List, IfOk, All, pos, map, EachIndex, slice_index};
+ghost use Rattle.sg_lawful.specs.Lawful.{IsLawfulList, IsLawfulIdeal};
+ghost use Rattle.sg_value.specs.Data.{int, list, semigroup, items_of};
+ghost use Rattle.sg_value.specs.Known.{Known, named};
+ghost use Rattle.sg_value.specs.Plain.{AllKnownIn, contents, contents_of_all, plain_of_all};
+ghost use Rattle.sg_store.specs.Interned.{Keeps};
+ghost use Rattle.sg_rows.specs.Made.{IsSound};
+ghost use Rattle.sg_calls.specs.Delivered.{IsDelivered, IsValueOf, entries_made};
+
+use sg_nat::{Ints, Nats};
+use sg_rows::{CallFault, Fault, Made, is_heavy};
+use sg_store::Store;
+use sg_value::{Items, Value};
+use std::alloc::{AllocError, Global};
+
+/// Each integer as a value.
+fn integer_values(alloc: Global, zs: &[i64]) -> Result<Vec<Value>, AllocError>
+    ensures { IfOk result (λ vs. contents_of_all vs.items ≡ items_of (map int zs.now)) }
+{
+    let mut values = Vec::with_capacity(alloc, zs.len())?;
+    for z in zs {
+        values.push(Value::Int(*z))?;
+    }
+    Ok(values)
+}
+
+/// Each natural as a value.
+fn natural_values(alloc: Global, ns: &[u64]) -> Result<Vec<Value>, AllocError>
+    requires { EachIndex ns.now (λ k. slice_index ns.now k < 2 ^ 63) }
+    ensures { IfOk result (λ vs. contents_of_all vs.items ≡ items_of (map (λ n. int (pos n)) ns.now)) }
+{
+    let mut values = Vec::with_capacity(alloc, ns.len())?;
+    for n in ns {
+        values.push(Value::Int(*n as i64))?;
+    }
+    Ok(values)
+}
+
+/// Each semigroup as a value, by its old id where it is known.
+fn semigroup_values(
+    alloc: Global,
+    store: &mut Store,
+    lists: &[Nats],
+) -> Result<Vec<Value>, AllocError>
+    requires { All IsLawfulList lists.now }
+    ensures plain { IfOk result (λ vs. plain_of_all (named store.new) vs.items ≡ items_of (map semigroup lists.now)) }
+    ensures known { IfOk result (λ vs. AllKnownIn (named store.new) vs.items) }
+    ensures keeps { Keeps store.old store.new }
+{
+    let mut values = Vec::with_capacity(alloc, lists.len())?;
+    for list in lists {
+        values.push(Value::Sem(store.intern(list.try_clone()?)?))?;
+    }
+    Ok(values)
+}
+
+/// The values as a list.
+fn list_value(alloc: Global, values: Vec<Value>) -> Result<Value, AllocError>
+    ensures { IfOk result (λ v. contents v ≡ list (contents_of_all values.items)) }
+{
+    Ok(Value::List(Items::from_vec(alloc, values)?))
+}
+
+/// A semigroup as a value, by its old id where it is known.
+fn semigroup_value(store: &mut Store, generators: Nats) -> Result<Value, AllocError>
+    requires { IsLawfulList generators }
+    ensures value { IfOk result (IsValueOf store.new (Made.Semigroup generators)) }
+    ensures keeps { Keeps store.old store.new }
+{
+    Ok(Value::Sem(store.intern(generators)?))
+}
+
+/// An ideal as a value, by its old id where it is known.
+fn ideal_value(store: &mut Store, ambient: Nats, generators: Ints) -> Result<Value, AllocError>
+    requires { IsLawfulIdeal ambient generators }
+    ensures value { IfOk result (IsValueOf store.new (Made.Ideal ambient generators)) }
+    ensures keeps { Keeps store.old store.new }
+{
+    let ambient = store.intern(ambient)?;
+    Ok(Value::Ideal(store.intern_ideal(ambient, generators)?))
+}
+
+/// What a row made as a value.
+fn value_of(alloc: Global, store: &mut Store, made: Made) -> Result<Value, AllocError>
+    requires { IsSound made }
+    ensures value { IfOk result (IsValueOf store.new made) }
+    ensures keeps { Keeps store.old store.new }
+{
+    match made {
+        Made::Integer(z) => Ok(Value::Int(z)),
+        Made::Natural(n) => Ok(Value::Int(n as i64)),
+        Made::Truth(holds) => Ok(Value::Bool(holds)),
+        Made::Integers(zs) => list_value(alloc, integer_values(alloc, zs.as_slice())?),
+        Made::Naturals(ns) => list_value(alloc, natural_values(alloc, ns.as_slice())?),
+        Made::Semigroup(generators) => semigroup_value(store, generators),
+        Made::Semigroups(lists) => {
+            list_value(alloc, semigroup_values(alloc, store, lists.as_slice())?)
+        }
+        Made::Ideal(ambient, generators) => ideal_value(store, ambient, generators),
+    }
+}
+
+/// The number of entries, where a list was made.
+fn entry_count(made: &Made) -> usize
+    ensures { result ≡ entries_made made.now }
+{
+    match made {
+        Made::Integers(zs) => zs.as_slice().len(),
+        Made::Naturals(ns) => ns.as_slice().len(),
+        Made::Semigroups(lists) => lists.as_slice().len(),
+        _ => 0,
+    }
+}
+
+/// What a row told as the reply: what was made as a value, or the refusal. A list that is too heavy for a value is
+/// refused before it is built.
+pub fn deliver(
+    alloc: Global,
+    store: &mut Store,
+    told: Result<Made, CallFault>,
+) -> Result<Value, CallFault>
+    requires { IfOk told IsSound }
+    ensures delivered { IsDelivered told store.new result }
+    ensures keeps { Keeps store.old store.new }
+{
+    match told {
+        Ok(made) if is_heavy(entry_count(&made) as u64) => Err(CallFault::Script(Fault::TooLarge)),
+        Ok(made) => Ok(value_of(alloc, store, made)?),
+        Err(fault) => Err(fault),
+    }
+}

@@ -1,6 +1,0 @@
-use Rattle.sg_eval.specs.Statements.{whole}
-use Rattle.sg_eval.proofs.OneEnd.{answer_one, end_one}
-use Rattle.sg_eval.proofs.laws.one_outcome.Goals as goal
-
-pub returns : goal.returns
-returns c = record { answers = answer_one; statements = λ stmt. end_one (whole stmt) }

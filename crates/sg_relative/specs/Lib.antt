@@ -1,9 +1,0 @@
-pub mod Words
-pub mod Settled
-pub mod Taken
-pub mod Facts
-pub mod Generated
-pub mod Pairs
-pub mod Moved
-pub mod Own
-pub mod Operators

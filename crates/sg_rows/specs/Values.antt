@@ -1,0 +1,59 @@
+-- Values of rows by their kinds.
+use Rattle.std.specs.Prelude.{◌≡◌, ◌↔◌, ℕ, ℤ, pos, Bool, IsTrue, List, [], map}
+use Rattle.sg_defs.specs.Membership.{Generates}
+use Rattle.sg_apery.specs.Fit.{IsFit}
+use Rattle.sg_value.specs.Data.{Data, int, truth, list, semigroup, semigroups, items_of, Kind}
+use Rattle.sg_rows.specs.Order.{Plain, Row}
+
+-- a row that refuses nothing by itself
+abbrev pub answers : (Plain → Type 0) → Row
+answers value = record { size = ⊥; bad = ⊥; limit = ⊥; many = ⊥; budget = ⊥; value = value }
+
+-- ---- single values
+
+-- an integer of which P holds
+abbrev pub an_integer : (ℤ → Type 0) → Plain → Type 0
+an_integer P d = (z : ℤ) × (d ≡ int z) × P z
+
+-- a natural of which P holds
+abbrev pub a_natural : (ℕ → Type 0) → Plain → Type 0
+a_natural P d = (n : ℕ) × (d ≡ int (pos n)) × P n
+
+-- whether P holds
+abbrev pub whether : Type 0 → Plain → Type 0
+whether P d = (b : Bool) × (d ≡ truth b) × (IsTrue b ↔ P)
+
+-- a row whose value is the numerical semigroup of the naturals with P; it is too large where that is not fit
+abbrev pub generates : (ℕ → Type 0) → Row
+generates P =
+    record (answers (λ d. (G : List ℕ) × (d ≡ semigroup G) × Generates P G)) { limit = (G : List ℕ) → Generates P G → ¬ IsFit G }
+
+-- an entry of a list of integers, which has one
+abbrev pub an_entry : (ℤ → Type 0) → List ℤ → Row
+an_entry P zs = record (answers (an_integer P)) { bad = zs ≡ [] }
+
+-- ---- lists
+
+-- these integers as a list
+abbrev pub integer_list : {H : Kind → Type 0} → List ℤ → Data H
+integer_list zs = list (items_of (map int zs))
+
+-- these naturals as a list
+abbrev pub natural_list : {H : Kind → Type 0} → List ℕ → Data H
+natural_list ns = list (items_of (map (λ n. int (pos n)) ns))
+
+-- what stands for these semigroups, as a list
+abbrev pub semigroup_list : {H : Kind → Type 0} → List (H semigroups) → Data H
+semigroup_list hs = list (items_of (map semigroup hs))
+
+-- a list of integers, of which P holds
+abbrev pub integers_with : (List ℤ → Type 0) → Plain → Type 0
+integers_with P d = (zs : List ℤ) × (d ≡ integer_list zs) × P zs
+
+-- a list of naturals, of which P holds
+abbrev pub naturals_with : (List ℕ → Type 0) → Plain → Type 0
+naturals_with P d = (ns : List ℕ) × (d ≡ natural_list ns) × P ns
+
+-- a list of semigroups by their minimal lists, of which P holds
+abbrev pub semigroups_with : (List (List ℕ) → Type 0) → Plain → Type 0
+semigroups_with P d = (L : List (List ℕ)) × (d ≡ semigroup_list L) × P L

@@ -1,0 +1,41 @@
+//! What rows make.
+
+ghost use Rattle.std.specs.Prelude.{◌≡◌, ℤ, SomeIff, FitsSigned};
+ghost use Rattle.std.specs.Int.{w64};
+ghost use Rattle.sg_rows.specs.Made.{Tells};
+ghost use Rattle.sg_rows.specs.Values.{answers};
+ghost use Rattle.sg_value.specs.Data.{int};
+
+use crate::fault::{CallFault, Fault};
+use sg_nat::{Ints, Nats, Rows};
+
+/// What a row made, before it is in any store. Contracts see it as the plain value that it is (`specs/Made`).
+#[derive(Drop)]
+pub enum Made {
+    /// An integer.
+    Integer(i64),
+    /// A natural, which is below 2^63.
+    Natural(u64),
+    /// A truth value.
+    Truth(bool),
+    /// A list of integers.
+    Integers(Ints),
+    /// A list of naturals below 2^63.
+    Naturals(Nats),
+    /// A semigroup, by its minimal generators.
+    Semigroup(Nats),
+    /// A list of semigroups, each by its minimal generators.
+    Semigroups(Rows),
+    /// A relative ideal, by the minimal generators of its ambient semigroup and by its own.
+    Ideal(Nats, Ints),
+}
+
+/// The integer, or that it is outside of 64 bits.
+pub fn integer(found: Option<i64>) -> Result<Made, CallFault>
+    ensures { (z : ℤ) → SomeIff found (FitsSigned w64 z) z → Tells result (answers (λ d. d ≡ int z)) }
+{
+    match found {
+        Some(z) => Ok(Made::Integer(z)),
+        None => Err(CallFault::Script(Fault::Overflow)),
+    }
+}

@@ -1,0 +1,9 @@
+pub mod Serving
+pub mod Constructing
+pub mod Deriving
+pub mod Naturals
+pub mod FromLists
+pub mod Dividing
+pub mod ProportionLemmas
+pub mod OneMaker
+pub mod SomeMaker

@@ -1,0 +1,4 @@
+pub mod Integers
+pub mod Rows
+pub mod Makers
+pub mod Settled

@@ -1,0 +1,4 @@
+pub mod Counting
+pub mod Bounds
+pub mod OneFact
+pub mod SomeFact

@@ -1,0 +1,6 @@
+pub mod Joining
+pub mod Concatenations
+pub mod Dividing
+pub mod Numbers
+pub mod OneList
+pub mod SomeList

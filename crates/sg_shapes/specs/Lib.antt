@@ -1,3 +1,0 @@
-pub mod Symmetry
-pub mod Closures
-pub mod Decompositions
