@@ -7,7 +7,7 @@ use Rattle.sg_defs.specs.Apery.{IsApery, IsAperyEntry}
 use Rattle.sg_defs.specs.Membership.{IsMember}
 use Rattle.sg_defs.proofs.MembershipLemmas.{member-add, member-entry, member-times}
 use Rattle.sg_classes.proofs.AperyLemmas.{congruent-split}
-use Rattle.sg_families.specs.Candidates.{IsBettiCandidate}
+use Rattle.sg_laws_families.specs.Candidates.{IsBettiCandidate}
 
 -- a member of the class below an entry would make the entry less the modulus a member
 not_below : (G : List ℕ) (m w x : ℕ) → 0 < m → IsMember G m → IsMember G x → x % m ≡ w % m → ((y : ℕ) → y + m ≡ w → IsMember G y → ⊥) → x < w → ⊥

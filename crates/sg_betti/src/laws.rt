@@ -5,7 +5,7 @@ ghost use Rattle.sg_defs.specs.Apery.{IsApery};
 ghost use Rattle.sg_defs.specs.Membership.{IsFactorization};
 ghost use Rattle.sg_nonunique.specs.Classes.{HasTwoClasses};
 ghost use Rattle.sg_nonunique.specs.Presentations.{AreRelations, IsCanonical, IsNoneSpare, Presents, Relation};
-ghost use Rattle.sg_families.specs.Candidates.{IsBettiCandidate};
+ghost use Rattle.sg_laws_families.specs.Candidates.{IsBettiCandidate};
 
 /// Every Betti element is an Apery element of the first generator, and a later generator (Rosales and Garcia-Sanchez,
 /// Numerical Semigroups, chapter 7): all factorizations with the first place positive are in one class.

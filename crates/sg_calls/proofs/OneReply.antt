@@ -12,22 +12,22 @@ use Rattle.sg_rows.specs.declared.fault.Fault.{Fault}
 use Rattle.sg_rows.proofs.Alternating.{or_else_one}
 use Rattle.sg_rows.proofs.FormLaws.{on_integer_and_semigroup_one}
 use Rattle.sg_rows.proofs.OneValue.{One, OneValue, reply_one, given_one, fitted_one, is_one, integer_one, whether_one}
-use Rattle.sg_lists.proofs.OneList.{list_one}
-use Rattle.sg_makers.specs.Makers as makers
-use Rattle.sg_makers.specs.declared.maker.Maker.TheVariants as maker
-use Rattle.sg_makers.proofs.OneMaker.{maker_one}
-use Rattle.sg_facts.specs.Facts as facts
-use Rattle.sg_facts.specs.declared.fact.Fact.TheVariants as fact
-use Rattle.sg_facts.specs.declared.fact.GeneratorsFact.TheVariants as generators
-use Rattle.sg_facts.proofs.OneFact.{fact_one}
-use Rattle.sg_shapes.proofs.OneShape.{shape_one}
-use Rattle.sg_relative.specs.Ideals as ideals
-use Rattle.sg_relative.specs.Rows.{generated_row, member_row, multiple_row, pair_row, translate_row}
-use Rattle.sg_relative.specs.declared.facts.IdealFact.TheVariants.{Generators}
-use Rattle.sg_relative.specs.declared.ideals.IdealCommand.TheVariants.{OfIdeal, OfTwoIdeals}
-use Rattle.sg_relative.specs.declared.pairs.Pair.TheVariants.{Difference, Sum}
-use Rattle.sg_relative.specs.declared.pairs.Pair.TheVariants as pair
-use Rattle.sg_relative.proofs.OneIdeal.{ideal_one, pair_one, generated_one, multiple_one, translate_one, member_one}
+use Rattle.sg_rows_lists.proofs.OneList.{list_one}
+use Rattle.sg_rows_constructors.specs.Makers as makers
+use Rattle.sg_rows_constructors.specs.declared.maker.Maker.TheVariants as maker
+use Rattle.sg_rows_constructors.proofs.OneMaker.{maker_one}
+use Rattle.sg_rows_invariants.specs.Facts as facts
+use Rattle.sg_rows_invariants.specs.declared.fact.Fact.TheVariants as fact
+use Rattle.sg_rows_invariants.specs.declared.fact.GeneratorsFact.TheVariants as generators
+use Rattle.sg_rows_invariants.proofs.OneFact.{fact_one}
+use Rattle.sg_rows_symmetry.proofs.OneShape.{shape_one}
+use Rattle.sg_rows_ideals.specs.Ideals as ideals
+use Rattle.sg_rows_ideals.specs.Rows.{generated_row, member_row, multiple_row, pair_row, translate_row}
+use Rattle.sg_rows_ideals.specs.declared.facts.IdealFact.TheVariants.{Generators}
+use Rattle.sg_rows_ideals.specs.declared.ideals.IdealCommand.TheVariants.{OfIdeal, OfTwoIdeals}
+use Rattle.sg_rows_ideals.specs.declared.pairs.Pair.TheVariants.{Difference, Sum}
+use Rattle.sg_rows_ideals.specs.declared.pairs.Pair.TheVariants as pair
+use Rattle.sg_rows_ideals.proofs.OneIdeal.{ideal_one, pair_one, generated_one, multiple_one, translate_one, member_one}
 use Rattle.sg_calls.specs.Remainders.{IsRemainder}
 use Rattle.sg_calls.proofs.Remainders.{remainder_one}
 use Rattle.sg_calls.specs.Rows.{row}

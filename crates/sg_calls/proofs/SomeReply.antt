@@ -4,8 +4,8 @@ use Rattle.std.specs.Prelude.{◌+ℤ◌, ◌-ℤ◌, ◌*ℤ◌, ◌≤ℤ◌, 
 use Rattle.std.specs.Int.{int_rem_euclid}
 use Rattle.sg_value.specs.Plain.{Things}
 use Rattle.sg_defs.specs.Membership.{IsIntegerMember}
-use Rattle.sg_exist.proofs.Decisions.{decided-eq_z, decided-le_z, decided-lt_z, decided-not}
-use Rattle.sg_exist.proofs.InvariantsExist.{integer_member-decided}
+use Rattle.sg_laws_invariants.proofs.Decisions.{decided-eq_z, decided-le_z, decided-lt_z, decided-not}
+use Rattle.sg_laws_invariants.proofs.InvariantsExist.{integer_member-decided}
 use Rattle.sg_value.specs.Data.{int, Items}
 use Rattle.sg_rows.specs.Order.{Plain, IsReply}
 use Rattle.sg_rows.specs.Entries.{IsEntry, entry_count}
@@ -19,22 +19,22 @@ use Rattle.sg_rows.proofs.EqualData.{data-decided, entry-decided}
 use Rattle.sg_rows.proofs.FormLaws.{on_integer_and_semigroup_some}
 use Rattle.sg_rows.proofs.KindLemmas.{any_some}
 use Rattle.sg_rows.proofs.SomeValue.{SomeValue, answers_some, bad_some, given_some, fitted_some, integer_some, is_some_value, reply_some, whether_some}
-use Rattle.sg_lists.proofs.SomeList.{list_some}
-use Rattle.sg_makers.specs.Makers as makers
-use Rattle.sg_makers.specs.declared.maker.Maker.TheVariants as maker
-use Rattle.sg_makers.proofs.SomeMaker.{maker_some}
-use Rattle.sg_facts.specs.Facts as facts
-use Rattle.sg_facts.specs.declared.fact.Fact.TheVariants as fact
-use Rattle.sg_facts.specs.declared.fact.GeneratorsFact.TheVariants as generators
-use Rattle.sg_facts.proofs.SomeFact.{fact_some}
-use Rattle.sg_shapes.proofs.SomeShape.{shape_some}
-use Rattle.sg_relative.specs.Ideals as ideals
-use Rattle.sg_relative.specs.Rows.{generated_row, member_row, multiple_row, pair_row, translate_row}
-use Rattle.sg_relative.specs.declared.facts.IdealFact.TheVariants.{Generators}
-use Rattle.sg_relative.specs.declared.ideals.IdealCommand.TheVariants.{OfIdeal, OfTwoIdeals}
-use Rattle.sg_relative.specs.declared.pairs.Pair.TheVariants.{Difference, Sum}
-use Rattle.sg_relative.specs.declared.pairs.Pair.TheVariants as pair
-use Rattle.sg_relative.proofs.SomeIdeal.{ideal_some, pair_some, generated_some, multiple_some, translate_some, member_some}
+use Rattle.sg_rows_lists.proofs.SomeList.{list_some}
+use Rattle.sg_rows_constructors.specs.Makers as makers
+use Rattle.sg_rows_constructors.specs.declared.maker.Maker.TheVariants as maker
+use Rattle.sg_rows_constructors.proofs.SomeMaker.{maker_some}
+use Rattle.sg_rows_invariants.specs.Facts as facts
+use Rattle.sg_rows_invariants.specs.declared.fact.Fact.TheVariants as fact
+use Rattle.sg_rows_invariants.specs.declared.fact.GeneratorsFact.TheVariants as generators
+use Rattle.sg_rows_invariants.proofs.SomeFact.{fact_some}
+use Rattle.sg_rows_symmetry.proofs.SomeShape.{shape_some}
+use Rattle.sg_rows_ideals.specs.Ideals as ideals
+use Rattle.sg_rows_ideals.specs.Rows.{generated_row, member_row, multiple_row, pair_row, translate_row}
+use Rattle.sg_rows_ideals.specs.declared.facts.IdealFact.TheVariants.{Generators}
+use Rattle.sg_rows_ideals.specs.declared.ideals.IdealCommand.TheVariants.{OfIdeal, OfTwoIdeals}
+use Rattle.sg_rows_ideals.specs.declared.pairs.Pair.TheVariants.{Difference, Sum}
+use Rattle.sg_rows_ideals.specs.declared.pairs.Pair.TheVariants as pair
+use Rattle.sg_rows_ideals.proofs.SomeIdeal.{ideal_some, pair_some, generated_some, multiple_some, translate_some, member_some}
 use Rattle.sg_calls.specs.Remainders.{IsRemainder}
 use Rattle.sg_calls.proofs.Remainders.{remainder_is}
 use Rattle.sg_calls.specs.Rows.{row}

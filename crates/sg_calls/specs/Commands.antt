@@ -5,11 +5,11 @@ use Rattle.std.specs.Option.{option_map, option_or}
 use Rattle.std.specs.Str.{bytes_eq}
 use Rattle.sg_rows.specs.declared.fault.Fault.{Fault}
 use Rattle.sg_rows.specs.declared.fault.Fault.TheVariants.{UnknownName, WrongCount}
-use Rattle.sg_lists.specs.Lists as lists
-use Rattle.sg_makers.specs.Makers as makers
-use Rattle.sg_facts.specs.Facts as facts
-use Rattle.sg_shapes.specs.Shapes as shapes
-use Rattle.sg_relative.specs.Ideals as ideals
+use Rattle.sg_rows_lists.specs.Lists as lists
+use Rattle.sg_rows_constructors.specs.Makers as makers
+use Rattle.sg_rows_invariants.specs.Facts as facts
+use Rattle.sg_rows_symmetry.specs.Shapes as shapes
+use Rattle.sg_rows_ideals.specs.Ideals as ideals
 use Rattle.sg_calls.specs.declared.command.Command.{Command}
 use Rattle.sg_calls.specs.declared.command.Command.TheVariants.{Lists, Makers, Facts, Shapes, Ideals, Shared}
 use Rattle.sg_calls.specs.declared.command.Shared.TheVariants.{Intersection, MinimalGenerators}

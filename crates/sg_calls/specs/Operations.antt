@@ -8,8 +8,8 @@ use Rattle.sg_rows.specs.Entries.{IsEntry}
 use Rattle.sg_rows.specs.Forms.{on_integer_and_semigroup, on_integer_and_ideal, on_list_and_semigroup, on_two_ideals}
 use Rattle.sg_rows.specs.Kinds.{given, fitted, as_integer, as_list, two_integers}
 use Rattle.sg_rows.specs.Values.{answers, an_integer, whether}
-use Rattle.sg_relative.specs.Rows.{generated_row, member_row, multiple_row, pair_row, translate_row}
-use Rattle.sg_relative.specs.declared.pairs.Pair.TheVariants.{Difference, Sum}
+use Rattle.sg_rows_ideals.specs.Rows.{generated_row, member_row, multiple_row, pair_row, translate_row}
+use Rattle.sg_rows_ideals.specs.declared.pairs.Pair.TheVariants.{Difference, Sum}
 use Rattle.sg_calls.specs.Remainders.{IsRemainder}
 use Rattle.sg_calls.specs.declared.operator.Operator.{Operator}
 use Rattle.sg_calls.specs.declared.operator.Operator.TheVariants.{Plus, Less, Times, Mod, Eq, Ne, Lt, Le, Gt, Ge, Member}

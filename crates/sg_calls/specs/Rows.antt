@@ -3,17 +3,17 @@ use Rattle.sg_value.specs.Plain.{Things}
 use Rattle.sg_value.specs.Data.{Items}
 use Rattle.sg_rows.specs.Alternatives.{or_else}
 use Rattle.sg_rows.specs.Order.{Case}
-use Rattle.sg_lists.specs.Lists as lists
-use Rattle.sg_makers.specs.Makers as makers
-use Rattle.sg_makers.specs.declared.maker.Maker.TheVariants as maker
-use Rattle.sg_facts.specs.Facts as facts
-use Rattle.sg_facts.specs.declared.fact.Fact.TheVariants as fact
-use Rattle.sg_facts.specs.declared.fact.GeneratorsFact.TheVariants as generators
-use Rattle.sg_shapes.specs.Shapes as shapes
-use Rattle.sg_relative.specs.Ideals as ideals
-use Rattle.sg_relative.specs.declared.facts.IdealFact.TheVariants.{Generators}
-use Rattle.sg_relative.specs.declared.ideals.IdealCommand.TheVariants.{OfIdeal, OfTwoIdeals}
-use Rattle.sg_relative.specs.declared.pairs.Pair.TheVariants as pair
+use Rattle.sg_rows_lists.specs.Lists as lists
+use Rattle.sg_rows_constructors.specs.Makers as makers
+use Rattle.sg_rows_constructors.specs.declared.maker.Maker.TheVariants as maker
+use Rattle.sg_rows_invariants.specs.Facts as facts
+use Rattle.sg_rows_invariants.specs.declared.fact.Fact.TheVariants as fact
+use Rattle.sg_rows_invariants.specs.declared.fact.GeneratorsFact.TheVariants as generators
+use Rattle.sg_rows_symmetry.specs.Shapes as shapes
+use Rattle.sg_rows_ideals.specs.Ideals as ideals
+use Rattle.sg_rows_ideals.specs.declared.facts.IdealFact.TheVariants.{Generators}
+use Rattle.sg_rows_ideals.specs.declared.ideals.IdealCommand.TheVariants.{OfIdeal, OfTwoIdeals}
+use Rattle.sg_rows_ideals.specs.declared.pairs.Pair.TheVariants as pair
 use Rattle.sg_calls.specs.declared.command.Command.{Command}
 use Rattle.sg_calls.specs.declared.command.Command.TheVariants.{Lists, Makers, Facts, Shapes, Ideals, Shared}
 use Rattle.sg_calls.specs.declared.command.Shared.TheVariants.{Intersection, MinimalGenerators}

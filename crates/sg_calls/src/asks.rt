@@ -9,17 +9,17 @@ ghost use Rattle.sg_lawful.specs.Lawful.{IsLawfulList, IsLawfulIdeal};
 ghost use Rattle.sg_value.specs.Data.{ideals};
 ghost use Rattle.sg_value.specs.Known.{named};
 ghost use Rattle.sg_value.specs.Plain.{AllKnown, AllKnownIn, thing_at};
-ghost use Rattle.sg_relative.specs.Rows.{over};
+ghost use Rattle.sg_rows_ideals.specs.Rows.{over};
 ghost use Rattle.sg_calls.specs.Asked.{the_semigroup, the_ideal, the_semigroup_and_integer, the_semigroups, the_integer_and_semigroup, the_integer_and_ideal, the_ideals, the_list_and_semigroup};
 
 use sg_apery::Table;
 use sg_ideal::Ideal;
 use sg_nat::{Ints, Nats};
-use sg_relative::known_ideal;
 use sg_rows::{
     integer_then_semigroup, list_then_semigroup, one_ideal, one_semigroup, semigroup_and_integer,
     two_semigroups,
 };
+use sg_rows_ideals::known_ideal;
 use sg_store::Store;
 use sg_value::{IdealId, Value};
 use std::alloc::{AllocError, Global};

@@ -3,12 +3,12 @@
 ghost use Rattle.std.specs.Prelude.{◌≡◌};
 ghost use Rattle.sg_calls.specs.Commands.{word_named, family_command, command_named, takes, checked};
 
-use sg_facts::Fact;
-use sg_lists::ListCommand;
-use sg_makers::Maker;
-use sg_relative::IdealCommand;
 use sg_rows::{Fault, Named, find};
-use sg_shapes::Shape;
+use sg_rows_constructors::Maker;
+use sg_rows_ideals::IdealCommand;
+use sg_rows_invariants::Fact;
+use sg_rows_lists::ListCommand;
+use sg_rows_symmetry::Shape;
 
 /// A command, by the family that it is of.
 #[derive(Clone, Copy)]
@@ -84,19 +84,19 @@ static OWN_NAMES: [Named<Word>; 8] = [
 fn family_command(name: &[u8]) -> Option<Command>
     ensures { result ≡ family_command name.now }
 {
-    if let Some(command) = sg_lists::named(name) {
+    if let Some(command) = sg_rows_lists::named(name) {
         return Some(Command::Lists(command));
     }
-    if let Some(maker) = sg_makers::named(name) {
+    if let Some(maker) = sg_rows_constructors::named(name) {
         return Some(Command::Makers(maker));
     }
-    if let Some(fact) = sg_facts::named(name) {
+    if let Some(fact) = sg_rows_invariants::named(name) {
         return Some(Command::Facts(fact));
     }
-    if let Some(shape) = sg_shapes::named(name) {
+    if let Some(shape) = sg_rows_symmetry::named(name) {
         return Some(Command::Shapes(shape));
     }
-    Some(Command::Ideals(sg_relative::named(name)?))
+    Some(Command::Ideals(sg_rows_ideals::named(name)?))
 }
 
 /// What this name stands for.
@@ -124,11 +124,11 @@ pub fn takes(command: Command, count: usize) -> bool
     ensures { result ≡ takes command count }
 {
     match command {
-        Command::Lists(command) => sg_lists::takes(command, count),
-        Command::Makers(maker) => sg_makers::takes(maker, count),
-        Command::Facts(fact) => sg_facts::takes(fact, count),
-        Command::Shapes(shape) => sg_shapes::takes(shape, count),
-        Command::Ideals(command) => sg_relative::takes(command, count),
+        Command::Lists(command) => sg_rows_lists::takes(command, count),
+        Command::Makers(maker) => sg_rows_constructors::takes(maker, count),
+        Command::Facts(fact) => sg_rows_invariants::takes(fact, count),
+        Command::Shapes(shape) => sg_rows_symmetry::takes(shape, count),
+        Command::Ideals(command) => sg_rows_ideals::takes(command, count),
         Command::Shared(Shared::Intersection) => count == 2,
         Command::Shared(Shared::MinimalGenerators) => count == 1,
     }

@@ -6,13 +6,13 @@ ghost use Rattle.sg_value.specs.Plain.{AllKnownIn, plain_of_all};
 ghost use Rattle.sg_store.specs.Interned.{Keeps};
 ghost use Rattle.sg_rows.specs.Forms.{of_ideal, of_list_then_semigroup, of_semigroup_then_integer, of_three_integers, of_two_ideals, of_two_integers, of_two_semigroups};
 ghost use Rattle.sg_rows.specs.Replies.{Replies};
-ghost use Rattle.sg_lists.specs.Lists as lists;
-ghost use Rattle.sg_makers.specs.Makers as makers;
-ghost use Rattle.sg_makers.specs.Rows.{modular_row, proportional_row, intersection_row, quotient_row};
-ghost use Rattle.sg_facts.specs.Facts as facts;
-ghost use Rattle.sg_shapes.specs.Shapes as shapes;
-ghost use Rattle.sg_relative.specs.Ideals as ideals;
-ghost use Rattle.sg_relative.specs.Rows.{fact_row, generated_row, pair_row};
+ghost use Rattle.sg_rows_lists.specs.Lists as lists;
+ghost use Rattle.sg_rows_constructors.specs.Makers as makers;
+ghost use Rattle.sg_rows_constructors.specs.Rows.{modular_row, proportional_row, intersection_row, quotient_row};
+ghost use Rattle.sg_rows_invariants.specs.Facts as facts;
+ghost use Rattle.sg_rows_symmetry.specs.Shapes as shapes;
+ghost use Rattle.sg_rows_ideals.specs.Ideals as ideals;
+ghost use Rattle.sg_rows_ideals.specs.Rows.{fact_row, generated_row, pair_row};
 
 use crate::asks::{
     integer_then_table, list_then_table, one_ideal_by_lists, one_table, two_ideals, two_tables,
@@ -22,12 +22,12 @@ use crate::forms::{
     of_generators, of_list, of_list_or_integers, of_numbers, of_table, of_table_and_integer,
     of_table_and_numbers,
 };
-use sg_facts::{AperyModulo, Fact, TableFact};
-use sg_lists::{ListCommand, concatenation_of, length_of};
-use sg_makers::{Maker, intersection, modular, proportional, quotient_by};
-use sg_relative::{IdealCommand, IdealFact, Pair, fact_of, generated, pair_of};
 use sg_rows::{CallFault, Fault, OfTable, one_list, three_integers, two_integers};
-use sg_shapes::Shape;
+use sg_rows_constructors::{Maker, intersection, modular, proportional, quotient_by};
+use sg_rows_ideals::{IdealCommand, IdealFact, Pair, fact_of, generated, pair_of};
+use sg_rows_invariants::{AperyModulo, Fact, TableFact};
+use sg_rows_lists::{ListCommand, concatenation_of, length_of};
+use sg_rows_symmetry::Shape;
 use sg_store::Store;
 use sg_value::Value;
 use std::alloc::Global;

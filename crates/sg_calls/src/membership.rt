@@ -6,12 +6,12 @@ ghost use Rattle.sg_value.specs.Plain.{AllKnown, AllKnownIn, plain, plain_of_all
 ghost use Rattle.sg_rows.specs.Replies.{Replies};
 ghost use Rattle.sg_rows.specs.Entries.{IsEntry};
 ghost use Rattle.sg_rows.specs.Forms.{on_integer_and_ideal};
-ghost use Rattle.sg_relative.specs.Rows.{member_row};
+ghost use Rattle.sg_rows_ideals.specs.Rows.{member_row};
 ghost use Rattle.sg_calls.specs.Operations.{membership};
 
 use crate::asks::{integer_then_table, table_of_ideal};
-use sg_relative::is_member;
 use sg_rows::{CallFault, Fault, entries_of, integer_then_ideal};
+use sg_rows_ideals::is_member;
 use sg_store::Store;
 use sg_value::Value;
 use std::alloc::Global;

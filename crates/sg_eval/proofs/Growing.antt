@@ -16,9 +16,9 @@ use Rattle.sg_rows.specs.Replies.{Replies}
 use Rattle.sg_rows.specs.declared.fault.CallFault.{CallFault}
 use Rattle.sg_rows.specs.declared.fault.CallFault.TheVariants.{Script}
 use Rattle.sg_rows.specs.declared.fault.Fault.TheVariants.{UnknownName, WrongCount}
-use Rattle.sg_lists.specs.Concatenations.{concatenation_of, left_in}
-use Rattle.sg_lists.specs.Lists.{named as list_named}
-use Rattle.sg_lists.specs.declared.lists.ListCommand.TheVariants.{Concatenation}
+use Rattle.sg_rows_lists.specs.Concatenations.{concatenation_of, left_in}
+use Rattle.sg_rows_lists.specs.Lists.{named as list_named}
+use Rattle.sg_rows_lists.specs.declared.lists.ListCommand.TheVariants.{Concatenation}
 use Rattle.sg_calls.specs.Commands.{takes, word_named}
 use Rattle.sg_calls.specs.declared.command.Command.TheVariants.{Lists}
 use Rattle.sg_calls.specs.declared.command.Word.TheVariants as word

@@ -9,7 +9,7 @@ use Rattle.sg_value.specs.Plain.{Named, AllKnown, plain, plain_of_all, Things}
 use Rattle.sg_value.specs.declared.value.Value.{Value}
 use Rattle.sg_store.specs.Interned.{Keeps}
 use Rattle.sg_rows.specs.Order.{Plain}
-use Rattle.sg_lists.specs.declared.lists.ListCommand.TheVariants.{Concatenation}
+use Rattle.sg_rows_lists.specs.declared.lists.ListCommand.TheVariants.{Concatenation}
 use Rattle.sg_rows.specs.declared.fault.CallFault.{CallFault}
 use Rattle.sg_calls.specs.declared.command.Command.TheVariants.{Lists}
 use Rattle.sg_rows.specs.declared.fault.Fault.TheVariants.{WrongType}

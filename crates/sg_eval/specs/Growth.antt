@@ -4,7 +4,7 @@ use Rattle.sg_value.specs.Data.{Items, item}
 use Rattle.sg_value.specs.Known.{named}
 use Rattle.sg_value.specs.Plain.{Named, AllKnown, plain, Things}
 use Rattle.sg_value.specs.declared.value.Value.{Value}
-use Rattle.sg_lists.specs.declared.lists.ListCommand.TheVariants.{Concatenation}
+use Rattle.sg_rows_lists.specs.declared.lists.ListCommand.TheVariants.{Concatenation}
 use Rattle.sg_rows.specs.declared.fault.CallFault.{CallFault}
 use Rattle.sg_rows.specs.Order.{Plain}
 use Rattle.sg_calls.specs.declared.command.Command.TheVariants.{Lists}

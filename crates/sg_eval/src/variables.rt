@@ -18,7 +18,7 @@ ghost use Rattle.sg_meaning.specs.Vars.{with_value};
 use crate::variable::{Variable, find};
 use indexmap::IndexMap;
 use sg_calls::{CallFault, Fault};
-use sg_lists::concatenate_onto;
+use sg_rows_lists::concatenate_onto;
 use sg_value::Value;
 use std::alloc::{AllocError, Global};
 

@@ -8,12 +8,12 @@ use Rattle.sg_nonunique.specs.Catenary.{IsCatenaryOf}
 use Rattle.sg_nonunique.specs.Counts.{Exceeds}
 use Rattle.sg_nonunique.specs.Deltas.{IsDelta}
 use Rattle.sg_nonunique.specs.Factorizations.{AreFactorizations, IsIntegerFactorization, IsLengthIn}
-use Rattle.sg_exist.specs.Decided.{Decided}
-use Rattle.sg_finite.specs.Listing.{all_factorizations}
-use Rattle.sg_finite.proofs.CountLemmas.{exceeds-decided, listing-from_descending}
-use Rattle.sg_finite.proofs.ElementLemmas.{contains-nil, pairs-nil}
-use Rattle.sg_finite.proofs.FactorizationLemmas.{factorizations-listed}
-use Rattle.sg_finite.proofs.SetLemmas.{lengths-listed, deltas-listed, catenary-exists}
+use Rattle.sg_laws_invariants.specs.Decided.{Decided}
+use Rattle.sg_laws_finite.specs.Listing.{all_factorizations}
+use Rattle.sg_laws_finite.proofs.CountLemmas.{exceeds-decided, listing-from_descending}
+use Rattle.sg_laws_finite.proofs.ElementLemmas.{contains-nil, pairs-nil}
+use Rattle.sg_laws_finite.proofs.FactorizationLemmas.{factorizations-listed}
+use Rattle.sg_laws_finite.proofs.SetLemmas.{lengths-listed, deltas-listed, catenary-exists}
 
 pub integer_factorizations-listed : (G : List ℕ) (x : ℤ) → IsNumericalSemigroup G → (l : List (List ℕ)) × AreFactorizations G x l
 integer_factorizations-listed G (pos n) s = (all_factorizations G n, factorizations-listed G n s.positive)

@@ -10,14 +10,14 @@ use Rattle.sg_nonunique.specs.Deltas.{IsMaxDelta, IsMinDelta}
 use Rattle.sg_nonunique.specs.Elasticity.{IsElasticity}
 use Rattle.sg_nonunique.specs.Omega.{IsOmega, IsOmegaOfSemigroup}
 use Rattle.sg_nonunique.specs.Presentations.{IsCanonical, Relation}
-use Rattle.sg_exist.proofs.BoundLemmas.{members-from}
+use Rattle.sg_laws_invariants.proofs.BoundLemmas.{members-from}
 use Rattle.sg_factor.proofs.ElasticityLemmas.{is_elasticity}
-use Rattle.sg_families.specs.Bounds.{IsDifferenceGcd}
-use Rattle.sg_families.proofs.DegreesExist.{catenary_degree-exists, max_delta-exists}
-use Rattle.sg_families.proofs.DifferenceLemmas.{difference_gcd-exists, min_delta-none, min_delta-some}
-use Rattle.sg_families.proofs.Families.{numbers-family}
-use Rattle.sg_families.proofs.GcdLemmas.{gcd-of_closed}
-use Rattle.sg_families.proofs.NumbersExist.{betti_elements-exist, canonical_relations-exist}
+use Rattle.sg_laws_families.specs.Bounds.{IsDifferenceGcd}
+use Rattle.sg_laws_families.proofs.DegreesExist.{catenary_degree-exists, max_delta-exists}
+use Rattle.sg_laws_families.proofs.DifferenceLemmas.{difference_gcd-exists, min_delta-none, min_delta-some}
+use Rattle.sg_laws_families.proofs.Families.{numbers-family}
+use Rattle.sg_laws_families.proofs.GcdLemmas.{gcd-of_closed}
+use Rattle.sg_laws_families.proofs.NumbersExist.{betti_elements-exist, canonical_relations-exist}
 use Rattle.sg_omega.proofs.OmegaExists.{omega-exists, semigroup_omega-exists}
 
 module _ (G : List ℕ) (s : IsNumericalSemigroup G) where

@@ -11,7 +11,7 @@ ghost use Rattle.sg_nonunique.specs.Elasticity.{IsElasticity};
 ghost use Rattle.sg_nonunique.specs.Factorizations.{AreFactorizations, IsIntegerFactorization, IsLengthIn};
 ghost use Rattle.sg_nonunique.specs.Omega.{IsOmega, IsOmegaOfSemigroup};
 ghost use Rattle.sg_nonunique.specs.Presentations.{IsCanonical, Relation};
-ghost use Rattle.sg_exist.specs.Decided.{Decided};
+ghost use Rattle.sg_laws_invariants.specs.Decided.{Decided};
 
 /// Each integer has a list of its factorizations, one of their lengths and one of its deltas, and a catenary degree, and
 /// each natural an omega primality; and it is decided whether there are more factorizations than a bound.

@@ -7,7 +7,7 @@ use Rattle.sg_defs.specs.Membership.{IsFactorization}
 use Rattle.sg_defs.specs.Vectors.{IsLexBelow, ListsDescending}
 use Rattle.sg_nonunique.specs.Affine.{vector_value_of, IsAffineSemigroup, IsMinimalAffine, IsVectorFactorization, IsVectorMember}
 use Rattle.sg_nonunique.specs.Classes.{Share, IsSameClass, HasTwoClasses}
-use Rattle.sg_finite.proofs.ElementLemmas.{pairs-nil}
+use Rattle.sg_laws_finite.proofs.ElementLemmas.{pairs-nil}
 use Rattle.sg_nonunique_samples.proofs.KnownLists.{alone, by_two, two-of, six-of_two_three}
 
 abbrev pub A : List (List ℕ)

@@ -7,9 +7,9 @@ use Rattle.sg_nonunique.specs.Catenary.{IsChained, IsCatenary, IsCatenaryOf}
 use Rattle.sg_nonunique.specs.Classes.{IsSameClass}
 use Rattle.sg_nonunique.specs.Walks.{IsJoined}
 use Rattle.sg_nonunique.proofs.WalkLemmas.{joined-here, joined-step}
-use Rattle.sg_finite.proofs.ElementLemmas.{contains-nil}
-use Rattle.sg_families.proofs.ChainLemmas.{catenary-from_classes, unchained}
-use Rattle.sg_families.proofs.ClassLemmas.{class-here}
+use Rattle.sg_laws_finite.proofs.ElementLemmas.{contains-nil}
+use Rattle.sg_laws_families.proofs.ChainLemmas.{catenary-from_classes, unchained}
+use Rattle.sg_laws_families.proofs.ClassLemmas.{class-here}
 use Rattle.sg_nonunique_samples.proofs.ClassSamples.{twelve-first, thirty-first, thirty-12, six-first, six-apart}
 use Rattle.sg_nonunique_samples.proofs.KnownLists.{by_one, two-of, three-of, four, twelve, thirty, six-of_two_three}
 use Rattle.sg_nonunique_samples.proofs.PresentationSamples.{two_three-betti, two_three-family}

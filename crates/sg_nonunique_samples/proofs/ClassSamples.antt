@@ -3,9 +3,9 @@ use Rattle.std.proofs.Common.{◌≡◌, ℕ, zero, suc, ◌<◌, List, [], ◌�
 use Rattle.sg_defs.specs.Membership.{IsFactorization}
 use Rattle.sg_defs.specs.Vectors.{ListsDescending}
 use Rattle.sg_nonunique.specs.Classes.{Share, IsSameClass, HasTwoClasses}
-use Rattle.sg_finite.specs.Listing.{levels, all_factorizations}
-use Rattle.sg_families.proofs.BettiLemmas.{no_classes_of_zero}
-use Rattle.sg_families.proofs.ClassLemmas.{class-here, class-step, class-then, class-back}
+use Rattle.sg_laws_finite.specs.Listing.{levels, all_factorizations}
+use Rattle.sg_laws_families.proofs.BettiLemmas.{no_classes_of_zero}
+use Rattle.sg_laws_families.proofs.ClassLemmas.{class-here, class-step, class-then, class-back}
 use Rattle.sg_nonunique_samples.proofs.KnownLists.{alone, listed, one-of, two-of, three-of, positive-3, ten, thirty, twelve, three-of_two_three, six-of_two_three}
 
 -- vectors that share no place

@@ -7,9 +7,9 @@ use Rattle.sg_defs.specs.Vectors.{IsBelow, IsLexBelow, ListsAscending}
 use Rattle.sg_nonunique.specs.Affine.{vector_value_of}
 use Rattle.sg_nonunique.specs.Costs.{IsConstructionItem, IsPartial}
 use Rattle.sg_nonunique.specs.Counts.{Exceeds}
-use Rattle.sg_finite.proofs.CountLemmas.{exceeds-from_listing, listing-from_exceeds}
-use Rattle.sg_finite.proofs.ElementLemmas.{here, later, pairs-nil}
-use Rattle.sg_finite.proofs.OneListLemmas.{one-ascending}
+use Rattle.sg_laws_finite.proofs.CountLemmas.{exceeds-from_listing, listing-from_exceeds}
+use Rattle.sg_laws_finite.proofs.ElementLemmas.{here, later, pairs-nil}
+use Rattle.sg_laws_finite.proofs.OneListLemmas.{one-ascending}
 use Rattle.sg_nonunique_samples.proofs.KnownLists.{two-of, three-of}
 
 abbrev given : List (List ℕ)

@@ -6,8 +6,8 @@ use Rattle.sg_defs.specs.Vectors.{ListsDescending}
 use Rattle.sg_nonunique.specs.Affine.{vector_value_of, IsVectorFactorization}
 use Rattle.sg_nonunique.specs.Costs.{IsAtomValue, IsIntegerPartial, IsPartial}
 use Rattle.sg_nonunique.specs.Equations.{IsAtom}
-use Rattle.sg_finite.specs.Listing.{levels, all_partial}
-use Rattle.sg_finite.proofs.PartialLemmas.{partial-listed}
+use Rattle.sg_laws_finite.specs.Listing.{levels, all_partial}
+use Rattle.sg_laws_finite.proofs.PartialLemmas.{partial-listed}
 use Rattle.sg_nonunique_samples.proofs.AffineSamples.{two_three}
 use Rattle.sg_nonunique_samples.proofs.EquationSamples.{columns, atom-from, below-4, nonzero-4, positive-4, solves, solved}
 

@@ -6,9 +6,9 @@ use Rattle.sg_defs.specs.Vectors.{ListsDescending}
 use Rattle.sg_nonunique.specs.Costs.{Counted, grown, partial, IsCounted, IsPartial}
 use Rattle.sg_nonunique.specs.Counts.{Exceeds}
 use Rattle.sg_nonunique.specs.Equations.{IsGrown}
-use Rattle.sg_finite.specs.Listed.{IsListing}
-use Rattle.sg_finite.proofs.CountLemmas.{exceeds-from_listing, listing-from_exceeds, listing-from_ascending, listing-from_descending}
-use Rattle.sg_finite.proofs.ElementLemmas.{contains-map, from-map, pairs-append, pairs-map}
+use Rattle.sg_laws_finite.specs.Listed.{IsListing}
+use Rattle.sg_laws_finite.proofs.CountLemmas.{exceeds-from_listing, listing-from_exceeds, listing-from_ascending, listing-from_descending}
+use Rattle.sg_laws_finite.proofs.ElementLemmas.{contains-map, from-map, pairs-append, pairs-map}
 use Rattle.sg_nonunique_samples.proofs.CostSamples.{atom_values, partial-six, partial-two, partial-three}
 use Rattle.sg_nonunique_samples.proofs.EquationSamples.{columns}
 use Rattle.sg_nonunique_samples.proofs.GrownPairs.{pairs}

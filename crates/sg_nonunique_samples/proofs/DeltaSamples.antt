@@ -10,8 +10,8 @@ use Rattle.sg_defs.specs.Listings.{Lists}
 use Rattle.sg_defs.specs.Membership.{IsFactorization, IsNumericalSemigroup}
 use Rattle.sg_nonunique.specs.Deltas.{IsDelta, IsMaxDelta, IsMinDelta}
 use Rattle.sg_nonunique.specs.Factorizations.{IsLengthIn}
-use Rattle.sg_finite.proofs.ElementLemmas.{here, later}
-use Rattle.sg_families.proofs.DifferenceLemmas.{min_delta-none, min_delta-some}
+use Rattle.sg_laws_finite.proofs.ElementLemmas.{here, later}
+use Rattle.sg_laws_families.proofs.DifferenceLemmas.{min_delta-none, min_delta-some}
 use Rattle.sg_nonunique_samples.proofs.FactorizationSamples.{increasing-2, lengths-twelve, lengths-thirty}
 use Rattle.sg_nonunique_samples.proofs.KnownLists.{by_one, by_two, one-of, two-of, three-of, positive-2}
 

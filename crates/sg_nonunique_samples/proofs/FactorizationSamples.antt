@@ -11,8 +11,8 @@ use Rattle.sg_defs.specs.Vectors.{IsLexBelow}
 use Rattle.sg_nonunique.specs.Counts.{Exceeds}
 use Rattle.sg_nonunique.specs.Elasticity.{IsElasticity}
 use Rattle.sg_nonunique.specs.Factorizations.{AreFactorizations, IsLengthIn}
-use Rattle.sg_finite.proofs.CountLemmas.{exceeds-from_listing, listing-from_exceeds, listing-from_descending}
-use Rattle.sg_finite.proofs.ElementLemmas.{contains-nil, here, later, pairs-nil}
+use Rattle.sg_laws_finite.proofs.CountLemmas.{exceeds-from_listing, listing-from_exceeds, listing-from_descending}
+use Rattle.sg_laws_finite.proofs.ElementLemmas.{contains-nil, here, later, pairs-nil}
 use Rattle.sg_nonunique_samples.proofs.KnownLists.{by_one, by_two, one-of, two-of, three-of, twelve, thirty}
 
 pub negative : AreFactorizations (3 ∷ 5 ∷ 7 ∷ []) (negsuc 2) []

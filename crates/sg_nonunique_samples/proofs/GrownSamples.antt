@@ -9,7 +9,7 @@ use Rattle.sg_nonunique.specs.Equations.{image_of, inner_product, pair_columns, 
 use Rattle.sg_nonunique.specs.Places.{unit}
 use Rattle.sg_nonunique.specs.Walks.{IsWalk}
 use Rattle.sg_nonunique.proofs.OrderLemmas.{lex-then}
-use Rattle.sg_finite.proofs.ElementLemmas.{pairs-nil}
+use Rattle.sg_laws_finite.proofs.ElementLemmas.{pairs-nil}
 use Rattle.sg_nonunique_samples.proofs.EquationSamples.{columns, solves}
 use Rattle.sg_nonunique_samples.proofs.GrownPairs.{pairs, not_free, all-grown, IsFree}
 

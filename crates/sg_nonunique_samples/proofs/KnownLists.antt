@@ -7,10 +7,10 @@ use Rattle.sg_defs.specs.Vectors.{ListsDescending}
 use Rattle.sg_defs.proofs.ListLemmas.{contains-cases}
 use Rattle.sg_nonunique.specs.Walks.{IsWalk}
 use Rattle.sg_nonunique.specs.Classes.{Share}
-use Rattle.sg_finite.specs.Listing.{levels, all_factorizations}
-use Rattle.sg_finite.proofs.ElementLemmas.{contains-nil}
-use Rattle.sg_finite.proofs.FactorizationLemmas.{factorizations-listed}
-use Rattle.sg_finite.proofs.WalkDecisions.{walk-start}
+use Rattle.sg_laws_finite.specs.Listing.{levels, all_factorizations}
+use Rattle.sg_laws_finite.proofs.ElementLemmas.{contains-nil}
+use Rattle.sg_laws_finite.proofs.FactorizationLemmas.{factorizations-listed}
+use Rattle.sg_laws_finite.proofs.WalkDecisions.{walk-start}
 
 -- ---- generators
 

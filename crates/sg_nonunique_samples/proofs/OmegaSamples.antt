@@ -6,7 +6,7 @@ use Rattle.sg_defs.specs.Membership.{IsMember}
 use Rattle.sg_defs.specs.Vectors.{IsBelow}
 use Rattle.sg_defs.proofs.MembershipLemmas.{member-zero}
 use Rattle.sg_nonunique.specs.Omega.{IsAbove, Serves, IsOmega, IsOmegaOfSemigroup}
-use Rattle.sg_finite.proofs.ElementLemmas.{here}
+use Rattle.sg_laws_finite.proofs.ElementLemmas.{here}
 use Rattle.sg_nonunique_samples.proofs.KnownLists.{by_one, by_two, one-of}
 
 below-2 : (a b c d : ℕ) → a ≤ c → b ≤ d → IsBelow (a ∷ b ∷ []) (c ∷ d ∷ [])

@@ -8,12 +8,12 @@ use Rattle.sg_nonunique.specs.Classes.{IsSameClass, HasTwoClasses}
 use Rattle.sg_nonunique.specs.Presentations.{Relation, IsStep, AreRelations, Presents, IsNoneSpare, IsLexGreatest, IsCanonicalRelation, IsCanonical}
 use Rattle.sg_nonunique.specs.Walks.{IsWalk}
 use Rattle.sg_nonunique.proofs.OrderLemmas.{lex-irreflexive}
-use Rattle.sg_finite.proofs.ElementLemmas.{contains-nil, here, pairs-nil}
-use Rattle.sg_finite.proofs.SetLemmas.{greatest-first}
-use Rattle.sg_families.proofs.BettiLemmas.{betti-candidate}
-use Rattle.sg_families.proofs.CanonicalLemmas.{canonical-relations, canonical-presents, canonical-none_spare, one-greatest}
-use Rattle.sg_families.proofs.ClassLemmas.{class-here, class-end}
-use Rattle.sg_families.proofs.Families.{IsFamily, numbers-family}
+use Rattle.sg_laws_finite.proofs.ElementLemmas.{contains-nil, here, pairs-nil}
+use Rattle.sg_laws_finite.proofs.SetLemmas.{greatest-first}
+use Rattle.sg_laws_families.proofs.BettiLemmas.{betti-candidate}
+use Rattle.sg_laws_families.proofs.CanonicalLemmas.{canonical-relations, canonical-presents, canonical-none_spare, one-greatest}
+use Rattle.sg_laws_families.proofs.ClassLemmas.{class-here, class-end}
+use Rattle.sg_laws_families.proofs.Families.{IsFamily, numbers-family}
 use Rattle.sg_nonunique_samples.specs.Relations.{relation}
 use Rattle.sg_nonunique_samples.proofs.ClassSamples.{six-second, six-apart, three-one_class, thirty-middle, thirty-last, thirty-12, thirty-13}
 use Rattle.sg_nonunique_samples.proofs.KnownLists.{by_one, by_two, one-of, two-of, positive-2, six-of_two_three, thirty}

@@ -5,7 +5,7 @@
 //! worked by hand: N = <1>, <2, 3>, <3, 5>, <3, 5, 7>, <6, 10, 15>, and the affine one of [2] and [3]. Most functions have
 //! something that the definition holds of, and something that it does not.
 //!
-//! No crate needs to stand on this one, and it knows no algorithm but the listings of `sg_finite`.
+//! No crate needs to stand on this one, and it knows no algorithm but the listings of `sg_laws_finite`.
 #![tactic(auto)]
 
 pub mod affine;

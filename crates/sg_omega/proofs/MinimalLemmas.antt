@@ -12,7 +12,7 @@ use Rattle.sg_nonunique.specs.Places.{lower}
 use Rattle.sg_nonunique.proofs.OrderLemmas.{below-both, below-here, below-then, plus-minus}
 use Rattle.sg_nonunique.proofs.PlaceLemmas.{inside, length-lower, lower-same, lower-other, sum-lower, value_of-lower}
 use Rattle.sg_nonunique.proofs.SumLemmas.{length-minus, sum_positive}
-use Rattle.sg_finite.proofs.NumberLemmas.{some-below}
+use Rattle.sg_laws_finite.proofs.NumberLemmas.{some-below}
 use Rattle.sg_omega.specs.Minimal.{IsGreatestLength, IsMinimalAbove}
 
 -- a generator at a positive place can be taken away from the member v

@@ -9,13 +9,13 @@ use Rattle.sg_defs.proofs.DecidedLemmas.{member-decided}
 use Rattle.sg_defs.proofs.VectorLemmas.{value_of-zeros}
 use Rattle.sg_nonunique.specs.Omega.{IsAbove, IsOmega, IsOmegaOfSemigroup}
 use Rattle.sg_nonunique.proofs.SumLemmas.{zero_or_positive}
-use Rattle.sg_finite.specs.Listing.{all_factorizations}
-use Rattle.sg_finite.proofs.ElementLemmas.{contains-nil}
-use Rattle.sg_finite.proofs.FactorizationLemmas.{factorizations-listed}
-use Rattle.sg_finite.proofs.KeepLemmas.{keep, keep-exactly}
-use Rattle.sg_finite.proofs.NumberLemmas.{some-below}
-use Rattle.sg_finite.proofs.PartialLemmas.{place-below_sum}
-use Rattle.sg_finite.proofs.SearchLemmas.{greatest-in}
+use Rattle.sg_laws_finite.specs.Listing.{all_factorizations}
+use Rattle.sg_laws_finite.proofs.ElementLemmas.{contains-nil}
+use Rattle.sg_laws_finite.proofs.FactorizationLemmas.{factorizations-listed}
+use Rattle.sg_laws_finite.proofs.KeepLemmas.{keep, keep-exactly}
+use Rattle.sg_laws_finite.proofs.NumberLemmas.{some-below}
+use Rattle.sg_laws_finite.proofs.PartialLemmas.{place-below_sum}
+use Rattle.sg_laws_finite.proofs.SearchLemmas.{greatest-in}
 use Rattle.sg_omega.specs.Minimal.{IsGreatestLength, IsMinimalAbove}
 use Rattle.sg_omega.proofs.MinimalLemmas.{IsLowerable, here-minimal, lowerable-decided, minimal-below, omega-from_greatest, one-omega}
 

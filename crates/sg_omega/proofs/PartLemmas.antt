@@ -3,7 +3,7 @@ use Rattle.std.proofs.Common.{ℕ, ◌+◌, ◌<◌, ◌≤◌, List, [], ◌∷
 use Rattle.std.specs.Prelude.{Contains}
 use Rattle.std.proofs.lemmas.List.{take_all, take_more}
 use Rattle.std.proofs.lemmas.List.Elements.{Contains-append_left, Contains-push, Contains-push_cases}
-use Rattle.sg_finite.proofs.ElementLemmas.{contains-nil}
+use Rattle.sg_laws_finite.proofs.ElementLemmas.{contains-nil}
 
 -- l has the items of xs with P
 abbrev pub IsKept : (ℕ → Type 0) → List ℕ → List ℕ → Type 0

@@ -14,7 +14,7 @@ use Rattle.sg_defs.proofs.MembershipLemmas.{member-zero}
 use Rattle.sg_defs.proofs.VectorLemmas.{value_of-zeros}
 use Rattle.sg_classes.specs.Fit.{IsSpan}
 use Rattle.sg_classes.proofs.GeneratorLemmas.{contains-place, member-listed}
-use Rattle.sg_finite.proofs.ElementLemmas.{all-from_contained}
+use Rattle.sg_laws_finite.proofs.ElementLemmas.{all-from_contained}
 use Rattle.sg_nonunique.specs.Omega.{IsOmega, IsOmegaOfSemigroup}
 use Rattle.sg_nonunique.proofs.PlaceLemmas.{inside}
 use Rattle.sg_nonunique.proofs.SumLemmas.{zero_or_positive, get_or-zeros, sum-zeros}

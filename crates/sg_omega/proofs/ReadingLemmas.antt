@@ -4,7 +4,7 @@ use Rattle.std.specs.Prelude.{◌⊎◌, Contains, max}
 use Rattle.std.proofs.lemmas.Bool.{cases_lt}
 use Rattle.std.proofs.lemmas.List.{take_all, take_more}
 use Rattle.std.proofs.lemmas.List.Elements.{Contains-append_left, Contains-push, Contains-push_cases}
-use Rattle.sg_finite.proofs.ElementLemmas.{contains-nil}
+use Rattle.sg_laws_finite.proofs.ElementLemmas.{contains-nil}
 use Rattle.sg_omega.specs.Lengths.{AreGreatestMade}
 use Rattle.sg_omega.specs.Readings.{IsRead, IsReached, IsGreatestReading}
 

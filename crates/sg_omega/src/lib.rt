@@ -8,7 +8,7 @@
 //! the omega primality is their greatest length. Such a vector goes with a member of the semigroup and uses those
 //! generators alone in whose Apery sets that member lies (`specs/Lengths`); so one table of greatest lengths serves all
 //! members that lie in the same Apery sets (`walk`). `proofs/` has also that omega primality exists, by the listings of
-//! `sg_finite`.
+//! `sg_laws_finite`.
 #![tactic(auto)]
 
 pub mod laws;

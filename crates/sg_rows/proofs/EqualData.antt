@@ -3,8 +3,8 @@ use Rattle.std.proofs.Common.{◌≡◌, ℕ, Bool, true, false, List, [], ◌�
 use Rattle.sg_value.specs.Plain.{Things, RelativeIdeal}
 use Rattle.std.proofs.lemmas.Bool.{true≢false, false≢true}
 use Rattle.sg_value.specs.Data.{int, truth, text, list, fail, semigroup, ideal, Items, none, item}
-use Rattle.sg_exist.specs.Decided.{Decided}
-use Rattle.sg_exist.proofs.Decisions.{decided-or, decided-same, decided-eq, decided-eq_z}
+use Rattle.sg_laws_invariants.specs.Decided.{Decided}
+use Rattle.sg_laws_invariants.proofs.Decisions.{decided-or, decided-same, decided-eq, decided-eq_z}
 use Rattle.sg_rows.specs.Order.{Plain}
 use Rattle.sg_rows.specs.Entries.{IsEntry}
 

@@ -4,7 +4,7 @@ use Rattle.std.specs.Prelude.{All}
 use Rattle.std.proofs.lemmas.List.Elements.{All-head, All-tail}
 use Rattle.sg_defs.specs.Membership.{IsNumericalSemigroup}
 use Rattle.sg_apery.specs.Limits.{SPAN_LIMIT}
-use Rattle.sg_exist.proofs.SpansExist.{wide-decided}
+use Rattle.sg_laws_invariants.proofs.SpansExist.{wide-decided}
 use Rattle.sg_value.specs.Data.{int, semigroup, items_of}
 use Rattle.sg_rows.specs.Order.{Plain, fits}
 use Rattle.sg_rows.specs.Values.{integer_list, natural_list, semigroup_list, integers_with, naturals_with, semigroups_with}

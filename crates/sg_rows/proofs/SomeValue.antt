@@ -5,9 +5,9 @@ use Rattle.std.specs.Int.{w64}
 use lib.Signed.{mag}
 use Rattle.sg_defs.specs.Membership.{Generates}
 use Rattle.sg_apery.specs.Fit.{IsFit}
-use Rattle.sg_exist.specs.Decided.{Decided}
-use Rattle.sg_exist.proofs.Decisions.{decided-not, decided-lt, decided-same, truth-exists}
-use Rattle.sg_exist.proofs.SemigroupDecisions.{fit_list-or_none, unfit-decided}
+use Rattle.sg_laws_invariants.specs.Decided.{Decided}
+use Rattle.sg_laws_invariants.proofs.Decisions.{decided-not, decided-lt, decided-same, truth-exists}
+use Rattle.sg_laws_invariants.proofs.SemigroupDecisions.{fit_list-or_none, unfit-decided}
 use Rattle.sg_value.specs.Data.{int, truth, semigroup, weight_of, depth_of}
 use Rattle.sg_value.specs.declared.limits.TheConstants.{NESTING_LIMIT, WEIGHT_LIMIT}
 use Rattle.sg_rows.specs.Order.{Plain, Reply, Case, unfit, fits, Checks, passed, check, FirstOf, InBits, named_checks, value_checks, Delivers, IsReply, Row}

@@ -1,6 +1,6 @@
 -- A semigroup is not both short and wide.
 use Rattle.std.proofs.Common.{ℕ, List, arith}
-use Rattle.sg_exist.proofs.SpansExist.{span-one}
+use Rattle.sg_laws_invariants.proofs.SpansExist.{span-one}
 use Rattle.sg_lawful.specs.Spans.{IsWide, IsShort}
 use Rattle.sg_rows.specs.Order.{Plain, Passes}
 use Rattle.sg_rows.specs.Limits.{spanned}

@@ -1,5 +1,5 @@
 use Rattle.sg_betti.proofs.CandidateLemmas.{candidate-listed}
-use Rattle.sg_families.proofs.BettiLemmas.{betti-candidate}
+use Rattle.sg_laws_families.proofs.BettiLemmas.{betti-candidate}
 use Rattle.sg_betti.proofs.laws.betti_elements_are_candidates.Goals as goal
 
 pub returns-clause-candidate : goal.returns-clause-candidate

@@ -1,7 +1,7 @@
 use Rattle.std.proofs.Common.{◌<◌, length, arith}
 use Rattle.sg_defs.specs.Membership.{IsFactorization}
-use Rattle.sg_families.proofs.CanonicalLemmas.{canonical-relations, canonical-presents, canonical-none_spare}
-use Rattle.sg_families.proofs.Families.{numbers-family}
+use Rattle.sg_laws_families.proofs.CanonicalLemmas.{canonical-relations, canonical-presents, canonical-none_spare}
+use Rattle.sg_laws_families.proofs.Families.{numbers-family}
 use Rattle.sg_betti.proofs.laws.canonical_relations_present.Goals as goal
 
 pub returns-clause-relations : goal.returns-clause-relations

@@ -1,6 +1,6 @@
 use Rattle.std.proofs.Common.{◌<◌, arith}
 use Rattle.sg_defs.specs.Membership.{IsFactorization}
-use Rattle.sg_families.proofs.CanonicalLemmas.{one-canonical}
+use Rattle.sg_laws_families.proofs.CanonicalLemmas.{one-canonical}
 use Rattle.sg_betti.proofs.laws.one_canonical_list.Goals as goal
 
 pub returns : goal.returns

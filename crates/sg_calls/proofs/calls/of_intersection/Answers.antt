@@ -3,10 +3,10 @@ use Rattle.sg_value.specs.Known.{named}
 use Rattle.sg_value.specs.Plain.{plain, plain_of_all}
 use Rattle.sg_rows.specs.Kinds.{two, two_semigroups}
 use Rattle.sg_rows.proofs.KindLemmas.{two_at}
-use Rattle.sg_makers.specs.Rows.{intersection_row}
-use Rattle.sg_relative.specs.Ideals as ideals
-use Rattle.sg_relative.specs.declared.ideals.IdealCommand.TheVariants.{OfTwoIdeals}
-use Rattle.sg_relative.specs.declared.pairs.Pair.TheVariants as pair
+use Rattle.sg_rows_constructors.specs.Rows.{intersection_row}
+use Rattle.sg_rows_ideals.specs.Ideals as ideals
+use Rattle.sg_rows_ideals.specs.declared.ideals.IdealCommand.TheVariants.{OfTwoIdeals}
+use Rattle.sg_rows_ideals.specs.declared.pairs.Pair.TheVariants as pair
 use Rattle.sg_calls.proofs.Fitting.{first_told, found_some, pair_told}
 use Rattle.sg_calls.proofs.calls.of_intersection.Goals as goal
 

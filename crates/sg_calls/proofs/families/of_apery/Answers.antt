@@ -4,8 +4,8 @@ use Rattle.sg_value.specs.Plain.{plain_of_all}
 use Rattle.sg_rows.specs.Forms.{of_semigroup_and_integer}
 use Rattle.sg_rows.specs.Kinds.{as_semigroup, one}
 use Rattle.sg_rows.specs.Replies.{Replies}
-use Rattle.sg_facts.specs.Facts.{apery_modulo_row, table_row}
-use Rattle.sg_facts.specs.declared.fact.TableFact.TheVariants as table
+use Rattle.sg_rows_invariants.specs.Facts.{apery_modulo_row, table_row}
+use Rattle.sg_rows_invariants.specs.declared.fact.TableFact.TheVariants as table
 use Rattle.sg_calls.proofs.Fitting.{found_none, other_fitted}
 use Rattle.sg_calls.proofs.families.of_apery.Goals as goal
 

@@ -3,7 +3,7 @@ use Rattle.sg_value.specs.Known.{named}
 use Rattle.sg_value.specs.Plain.{plain, plain_of_all}
 use Rattle.sg_rows.specs.Kinds.{list_then_semigroup, two}
 use Rattle.sg_rows.proofs.KindLemmas.{two_at, two_plain-none}
-use Rattle.sg_relative.specs.Rows.{generated_row}
+use Rattle.sg_rows_ideals.specs.Rows.{generated_row}
 use Rattle.sg_calls.proofs.Fitting.{fitted_told, found_some, pair_told, unfitted}
 use Rattle.sg_calls.proofs.families.of_generated.Goals as goal
 

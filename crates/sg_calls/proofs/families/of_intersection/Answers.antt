@@ -3,7 +3,7 @@ use Rattle.sg_value.specs.Known.{named}
 use Rattle.sg_value.specs.Plain.{plain, plain_of_all}
 use Rattle.sg_rows.specs.Kinds.{two, two_semigroups}
 use Rattle.sg_rows.proofs.KindLemmas.{two_at, two_plain-none}
-use Rattle.sg_makers.specs.Rows.{intersection_row}
+use Rattle.sg_rows_constructors.specs.Rows.{intersection_row}
 use Rattle.sg_calls.proofs.Fitting.{fitted_told, found_some, pair_told, unfitted}
 use Rattle.sg_calls.proofs.families.of_intersection.Goals as goal
 

@@ -7,7 +7,7 @@ use Rattle.sg_rows.specs.Kinds.{two, two_integers}
 use Rattle.sg_rows.specs.Made.{Tells}
 use Rattle.sg_rows.proofs.KindLemmas.{two_at, two_integers-plain, two_plain-none}
 use Rattle.sg_rows.proofs.Signed.{of_bits}
-use Rattle.sg_makers.specs.Rows.{modular_row}
+use Rattle.sg_rows_constructors.specs.Rows.{modular_row}
 use Rattle.sg_calls.proofs.Fitting.{fitted_told, unfitted}
 use Rattle.sg_calls.proofs.families.of_modular.Goals as goal
 

@@ -3,7 +3,7 @@ use Rattle.sg_value.specs.Known.{named}
 use Rattle.sg_value.specs.Plain.{plain, plain_of_all}
 use Rattle.sg_rows.specs.Kinds.{two, two_ideals}
 use Rattle.sg_rows.proofs.KindLemmas.{two_at, two_plain-none}
-use Rattle.sg_relative.specs.Rows.{pair_row}
+use Rattle.sg_rows_ideals.specs.Rows.{pair_row}
 use Rattle.sg_calls.proofs.Fitting.{fitted_told, found_some, kept_from, pair_told, unfitted}
 use Rattle.sg_calls.proofs.families.of_pair.Goals as goal
 

@@ -8,7 +8,7 @@ use Rattle.sg_rows.specs.Kinds.{three, three_integers}
 use Rattle.sg_rows.specs.Made.{Tells}
 use Rattle.sg_rows.proofs.KindLemmas.{three_integers-plain}
 use Rattle.sg_rows.proofs.Signed.{of_bits, of_bits_right}
-use Rattle.sg_makers.specs.Rows.{proportional_row}
+use Rattle.sg_rows_constructors.specs.Rows.{proportional_row}
 use Rattle.sg_calls.proofs.Fitting.{fitted_told}
 use Rattle.sg_calls.proofs.families.of_proportional.Goals as goal
 

@@ -7,7 +7,7 @@ use Rattle.sg_rows.specs.Kinds.{integer_then_semigroup, two}
 use Rattle.sg_rows.specs.Made.{Tells}
 use Rattle.sg_rows.proofs.KindLemmas.{two_at, two_plain-none}
 use Rattle.sg_rows.proofs.Signed.{of_bits_right}
-use Rattle.sg_makers.specs.Rows.{quotient_row}
+use Rattle.sg_rows_constructors.specs.Rows.{quotient_row}
 use Rattle.sg_calls.proofs.Fitting.{fitted_told, found_some, unfitted}
 use Rattle.sg_calls.proofs.families.of_quotient.Goals as goal
 

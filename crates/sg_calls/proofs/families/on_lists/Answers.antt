@@ -2,7 +2,7 @@ use Rattle.std.proofs.Common.{sym, subst}
 use Rattle.sg_value.specs.Known.{named}
 use Rattle.sg_value.specs.Plain.{plain_of_all}
 use Rattle.sg_rows.specs.Replies.{Replies}
-use Rattle.sg_lists.specs.Lists as lists
+use Rattle.sg_rows_lists.specs.Lists as lists
 use Rattle.sg_calls.proofs.families.on_lists.Goals as goal
 
 pub returns-in-OfList-clause-reply : goal.returns-in-OfList-clause-reply

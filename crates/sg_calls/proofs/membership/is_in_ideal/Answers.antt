@@ -13,7 +13,7 @@ use Rattle.sg_rows.specs.Kinds.{integer_then_ideal}
 use Rattle.sg_rows.specs.Replies.{Replies}
 use Rattle.sg_rows.proofs.Replying.{replies_truth}
 use Rattle.sg_rows.proofs.Signed.{of_bits_right}
-use Rattle.sg_relative.specs.Rows.{member_row}
+use Rattle.sg_rows_ideals.specs.Rows.{member_row}
 use Rattle.sg_calls.proofs.Asking.{integer_and_ideal-some}
 use Rattle.sg_calls.proofs.Fitting.{fitted_by}
 use Rattle.sg_calls.proofs.membership.is_in_ideal.Goals as goal

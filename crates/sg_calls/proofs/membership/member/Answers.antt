@@ -15,7 +15,7 @@ use Rattle.sg_rows.specs.Values.{answers, whether}
 use Rattle.sg_rows.proofs.KindLemmas.{as_list-plain}
 use Rattle.sg_rows.proofs.Replying.{replies_truth}
 use Rattle.sg_rows.proofs.Signed.{of_bits_right}
-use Rattle.sg_relative.specs.Rows.{member_row}
+use Rattle.sg_rows_ideals.specs.Rows.{member_row}
 use Rattle.sg_calls.proofs.Fitting.{first_fitted, other_fitted}
 use Rattle.sg_calls.proofs.membership.member.Goals as goal
 

@@ -4,8 +4,8 @@ use Rattle.sg_value.specs.Plain.{contents, plain, thing_at}
 use Rattle.sg_rows.specs.Forms.{on_two_ideals}
 use Rattle.sg_rows.specs.Kinds.{two_ideals, two_integers}
 use Rattle.sg_rows.proofs.KindLemmas.{two_integers-plain}
-use Rattle.sg_relative.specs.Rows.{pair_row}
-use Rattle.sg_relative.specs.declared.pairs.Pair.TheVariants.{Difference}
+use Rattle.sg_rows_ideals.specs.Rows.{pair_row}
+use Rattle.sg_rows_ideals.specs.declared.pairs.Pair.TheVariants.{Difference}
 use Rattle.sg_calls.specs.Operations.{calculation}
 use Rattle.sg_calls.specs.declared.operator.Operator.TheVariants.{Less}
 use Rattle.sg_calls.proofs.Fitting.{fitted_told, found_some, kept_from, other_given, pair_told}

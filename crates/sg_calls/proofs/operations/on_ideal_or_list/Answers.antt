@@ -7,7 +7,7 @@ use Rattle.sg_rows.specs.Forms.{on_list_and_semigroup}
 use Rattle.sg_rows.specs.Kinds.{integer_then_ideal, list_then_semigroup}
 use Rattle.sg_rows.specs.Made.{Tells}
 use Rattle.sg_rows.proofs.Signed.{of_bits_right}
-use Rattle.sg_relative.specs.Rows.{generated_row, translate_row}
+use Rattle.sg_rows_ideals.specs.Rows.{generated_row, translate_row}
 use Rattle.sg_calls.specs.Asked.{the_list_and_semigroup}
 use Rattle.sg_calls.proofs.Fitting.{first_told, fitted_told, found_none, found_some, kept_from, other_fitted}
 use Rattle.sg_calls.proofs.operations.on_ideal_or_list.Goals as goal

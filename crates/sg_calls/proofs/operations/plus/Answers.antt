@@ -6,8 +6,8 @@ use Rattle.sg_rows.specs.Forms.{on_two_ideals}
 use Rattle.sg_rows.specs.Kinds.{two_ideals, two_integers}
 use Rattle.sg_rows.specs.Replies.{Replies}
 use Rattle.sg_rows.proofs.KindLemmas.{two_integers-plain}
-use Rattle.sg_relative.specs.Rows.{pair_row}
-use Rattle.sg_relative.specs.declared.pairs.Pair.TheVariants.{Sum}
+use Rattle.sg_rows_ideals.specs.Rows.{pair_row}
+use Rattle.sg_rows_ideals.specs.declared.pairs.Pair.TheVariants.{Sum}
 use Rattle.sg_calls.specs.Operations.{calculation, moved_or_generated}
 use Rattle.sg_calls.specs.declared.operator.Operator.TheVariants.{Plus}
 use Rattle.sg_calls.proofs.Fitting.{first_told, found_none, found_some, kept_from, other_fitted, other_given, pair_told}

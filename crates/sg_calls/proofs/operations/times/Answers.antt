@@ -8,7 +8,7 @@ use Rattle.sg_rows.specs.Kinds.{integer_then_ideal, two_integers}
 use Rattle.sg_rows.specs.Made.{Tells}
 use Rattle.sg_rows.proofs.KindLemmas.{two_integers-plain}
 use Rattle.sg_rows.proofs.Signed.{of_bits_right}
-use Rattle.sg_relative.specs.Rows.{multiple_row}
+use Rattle.sg_rows_ideals.specs.Rows.{multiple_row}
 use Rattle.sg_calls.specs.Operations.{calculation}
 use Rattle.sg_calls.specs.declared.operator.Operator.TheVariants.{Times}
 use Rattle.sg_calls.proofs.Fitting.{fitted_told, found_some, kept_from, other_given}

@@ -1,5 +1,0 @@
-use Rattle.sg_decided.proofs.DecompositionIrredundant.{decomposition-irredundant}
-use Rattle.sg_decided.proofs.laws.a_decomposition_is_irredundant.Goals as goal
-
-pub returns : goal.returns
-returns c = decomposition-irredundant

@@ -1,5 +1,0 @@
-use Rattle.sg_exist.proofs.InvariantsExist.{invariants-exist}
-use Rattle.sg_exist.proofs.laws.a_numerical_semigroup_has_its_invariants.Goals as goal
-
-pub returns : goal.returns
-returns c = invariants-exist

@@ -1,5 +1,0 @@
-use Rattle.sg_exist.proofs.SetsExist.{sets-generated}
-use Rattle.sg_exist.proofs.laws.constructed_sets_are_generated.Goals as goal
-
-pub returns : goal.returns
-returns c = sets-generated

@@ -1,5 +1,0 @@
-use Rattle.sg_finite.proofs.FactorizationLemmas.{factorizations-listed}
-use Rattle.sg_finite.proofs.laws.factorizations_are_listed.Goals as goal
-
-pub returns : goal.returns
-returns c = factorizations-listed

@@ -1,6 +1,0 @@
-use Rattle.sg_lists.specs.Lists.{named}
-use Rattle.sg_lists.proofs.lists.named.Goals as goal
-
-pub returns : goal.returns
-unfolding named
-returns c = c.find.ensures

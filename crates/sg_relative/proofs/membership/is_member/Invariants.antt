@@ -1,5 +1,0 @@
-use Rattle.sg_relative.proofs.Reaching.{IsMissedBy}
-use Rattle.sg_relative.proofs.membership.is_member.Given as goal
-
-abbrev pub invariant-loop-generator : goal.invariant-loop-generator
-invariant-loop-generator l = IsMissedBy l.table l.generators l.x l.generator-index
