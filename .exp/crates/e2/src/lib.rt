@@ -1,0 +1,5 @@
+//! e
+#![tactic(auto)]
+mod questions;
+mod store;
+pub use store::Store;
