@@ -1,5 +1,0 @@
-//! e
-#![tactic(auto)]
-mod questions;
-mod store;
-pub use store::Store;
