@@ -1,6 +1,6 @@
 -- Lengths of a number, by the differences of the generators and the first.
-use Rattle.std.proofs.Common.{◌≡◌, ℕ, zero, suc, ◌+◌, ◌-◌, ◌*◌, ◌/◌, ◌<◌, ◌≤◌, List, [], ◌∷◌, ◌++◌, length, get_or, drop, map, sum, refl, sym, ap, subst, ◌∙◌, inl, inr, ◌↔◌, arith}
-use Rattle.std.specs.Prelude.{slice_index, Contains, All}
+use Rattle.std.proofs.Common.{◌≡◌, ℕ, suc, ◌+◌, ◌-◌, ◌*◌, ◌/◌, ◌<◌, ◌≤◌, List, [], ◌∷◌, ◌++◌, length, get_or, drop, map, sum, sym, ap, subst, ◌∙◌, inl, inr, ◌↔◌, arith}
+use Rattle.std.specs.Prelude.{slice_index, All}
 use Rattle.std.specs.List.Sorted.{IsStrictlyIncreasing}
 use Rattle.std.proofs.lemmas.Bool.{cases_lt, cases_eq}
 use Rattle.std.proofs.lemmas.Nat.{le-div}
@@ -11,7 +11,6 @@ use Rattle.std.specs.Int.{div_ceil}
 use Rattle.std.proofs.lemmas.Grind.{div_ceil_times}
 use Rattle.std.proofs.Math.Nat.{mul-le-mul_left, mul-le-mul_right, div-mul-le_self}
 use Rattle.sg_defs.specs.Vectors.{value_of}
-use Rattle.sg_defs.specs.Listings.{Lists}
 use Rattle.sg_defs.specs.Membership.{IsFactorization, IsMember, IsNumericalSemigroup}
 use Rattle.sg_defs.proofs.MinimalLemmas.{first-least}
 use Rattle.sg_nonunique.specs.Factorizations.{IsLengthIn}

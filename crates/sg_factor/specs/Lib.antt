@@ -1,4 +1,7 @@
+pub mod Bounds
 pub mod Coins
+pub mod Faults
 pub mod Greedy
 pub mod LengthTables
+pub mod Nearness
 pub mod Steps

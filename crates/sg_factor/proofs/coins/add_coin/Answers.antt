@@ -1,5 +1,5 @@
-use Rattle.std.proofs.Common.{◌≡◌, ℕ, ◌+◌, ◌-◌, ◌<◌, ◌≤◌, List, length, set, inl, inr, arith}
-use Rattle.std.specs.Prelude.{◌⊎◌, slice_index}
+use Rattle.std.proofs.Common.{◌+◌, ◌-◌, ◌<◌, length, inl, inr, arith}
+use Rattle.std.specs.Prelude.{slice_index}
 use Rattle.sg_factor.specs.declared.coins.TheConstants.{NO_SUM}
 use Rattle.sg_factor.proofs.CoinLemmas.{counts-first, counts-next, bounded-next}
 use Rattle.sg_factor.proofs.coins.add_coin.Goals as goal

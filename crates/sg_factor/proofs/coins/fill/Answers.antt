@@ -1,8 +1,6 @@
-use Rattle.std.proofs.Common.{◌≡◌, ℕ, ◌+◌, ◌-◌, ◌<◌, ◌≤◌, List, [], length, drop, get_or, set, sym, subst, ap, inl, inr, arith}
-use Rattle.std.specs.Prelude.{slice_index}
+use Rattle.std.proofs.Common.{◌≡◌, ◌-◌, length, drop, get_or, set, sym, subst, ap, inl, inr, arith}
 use Rattle.std.proofs.lemmas.Bool.{cases_eq}
 use Rattle.std.proofs.lemmas.List.{drop_all, length-set, get_or-set_same, get_or-set_other}
-use Rattle.sg_factor.specs.declared.coins.TheConstants.{NO_SUM}
 use Rattle.sg_factor.specs.Coins.{AreLeastCounts}
 use Rattle.sg_factor.proofs.CoinLemmas.{counts-none, from-place}
 use Rattle.sg_factor.proofs.coins.fill.Goals as goal

@@ -1,4 +1,4 @@
-use Rattle.std.proofs.Common.{ℕ, ◌-◌, ◌≤◌, length, drop}
+use Rattle.std.proofs.Common.{◌-◌, ◌≤◌, length, drop}
 use Rattle.std.specs.Prelude.{slice_index, EachIndex}
 use Rattle.sg_factor.specs.Coins.{AreLeastCounts}
 use Rattle.sg_factor.specs.declared.coins.TheConstants.{NO_SUM}

@@ -1,4 +1,4 @@
-use Rattle.std.proofs.Common.{◌≡◌, ◌-◌, map, take, drop}
+use Rattle.std.proofs.Common.{◌≡◌, ◌-◌, map, take}
 use Rattle.std.specs.Prelude.{slice_index}
 use Rattle.sg_factor.proofs.length_table.differences.Given as goal
 

@@ -1,7 +1,6 @@
-use Rattle.std.proofs.Common.{◌≡◌, ℕ, ◌<◌, ◌+◌, ◌++◌, ◌∷◌, List, [], length, sym, ap, subst, ◌∙◌, arith}
+use Rattle.std.proofs.Common.{◌≡◌, ◌<◌, ◌+◌, length, sym, ap, subst, ◌∙◌, arith}
 use Rattle.std.specs.Prelude.{slice_index}
 use Rattle.sg_factor.specs.Coins.{AreLeastCounts}
-use Rattle.sg_factor.specs.LengthTables.{IsLeastLength}
 use Rattle.sg_factor.proofs.LengthLemmas.{least-push}
 use Rattle.sg_factor.proofs.length_table.least_lengths.Goals as goal
 

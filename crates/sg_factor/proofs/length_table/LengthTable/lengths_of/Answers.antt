@@ -1,12 +1,10 @@
-use Rattle.std.proofs.Common.{◌≡◌, ℕ, ◌≤◌, ◌<◌, ◌-◌, ◌*◌, ◌/◌, ◌+◌, List, [], length, get_or, sym, ap, subst, ◌∙◌, ◌↔◌, vec_len, arith}
+use Rattle.std.proofs.Common.{◌≡◌, ℕ, ◌≤◌, ◌<◌, ◌-◌, ◌*◌, ◌/◌, ◌+◌, List, [], length, get_or, sym, ap, subst, ◌∙◌, ◌↔◌, arith}
 use Rattle.std.specs.Prelude.{slice_index}
 use Rattle.std.specs.Int.{div_ceil}
-use Rattle.std.proofs.lemmas.Grind.{get_or_default_zero}
 use Rattle.sg_defs.specs.Membership.{IsFactorization}
-use Rattle.sg_defs.specs.Listings.{Lists}
 use Rattle.sg_nonunique.specs.Factorizations.{IsLengthIn}
 use Rattle.sg_classes.proofs.ListingLemmas.{ListsBelow, lists-push, lists-skip, lists-all}
-use Rattle.sg_factor.specs.LengthTables.{LengthReach, IsLengthTable}
+use Rattle.sg_factor.specs.LengthTables.{LengthReach}
 use Rattle.sg_factor.proofs.LengthLemmas.{lengths-init, read-fits, read-tells, lengths-end}
 use Rattle.sg_factor.proofs.length_table.LengthTable.lengths_of.Goals as goal
 use Rattle.sg_factor.proofs.length_table.LengthTable.lengths_of.Goals.{then-from-length+in_ok-push, else-from-length}
