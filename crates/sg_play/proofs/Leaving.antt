@@ -1,5 +1,5 @@
 -- Plays that were left before their end.
-use Rattle.std.proofs.Common.{◌≡◌, ℕ, ◌+◌, List, [], ◌∷◌, ◌++◌, take, drop, Bool, true, false, Result, Ok, Err, Some, refl, sym, ap, subst, ◌∙◌, inl, inr, append_assoc}
+use Rattle.std.proofs.Common.{◌≡◌, ℕ, ◌+◌, List, [], ◌∷◌, ◌++◌, take, drop, Bool, true, false, Result, Ok, Err, refl, sym, ap, subst, ◌∙◌, inl, inr, append_assoc}
 use Rattle.std.proofs.lemmas.List.{append-nil, take-append-le}
 use Rattle.sg_cut.specs.Cut.{Cut}
 use Rattle.sg_cut.specs.Lines.{count_of_line_feeds, line_of}
@@ -13,9 +13,9 @@ use Rattle.sg_rows.specs.declared.fault.Fault.{Fault}
 use Rattle.sg_meaning.specs.Process.{Process, gives, refuses, reads, asks, sets, writes, Runs, Breaks}
 use Rattle.sg_meaning.specs.Vars.{Vars, value_at, with_value}
 use Rattle.sg_meaning.specs.Statements.{Going, on, ended, whole as meaning}
-use Rattle.sg_meaning.proofs.OneEnd.{answer_one, end_one}
+use Rattle.sg_meaning.proofs.OneEnd.{answer_one}
 use Rattle.sg_play.specs.FaultLines.{fault_line}
-use Rattle.sg_play.specs.Record.{Mark, Played, Record, Refusal, marked, out, err, done, refused, IsFrontOf}
+use Rattle.sg_play.specs.Record.{Mark, Played, Record, marked, out, err, IsFrontOf}
 use Rattle.sg_play.specs.Play.{Turn, stops, goes, refused_at, executed, Performs, Takes, PlaysFrom, last, next}
 use Rattle.sg_play.specs.Left.{IsFirstStatement, GoesOn, LeftFrom, before, inside, telling, behind}
 use Rattle.sg_play.proofs.Turns.{goes-one}

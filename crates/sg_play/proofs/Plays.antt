@@ -1,5 +1,5 @@
 -- Plays: one outcome, and what more bytes do to it.
-use Rattle.std.proofs.Common.{◌≡◌, ℕ, ◌+◌, ◌≤◌, List, [], ◌++◌, length, take, drop, Bool, true, false, refl, sym, ap, ap₂, subst, ◌∙◌, append_assoc}
+use Rattle.std.proofs.Common.{◌≡◌, ℕ, ◌+◌, ◌≤◌, List, [], ◌++◌, length, take, drop, Bool, true, false, refl, sym, ap, subst, ◌∙◌, append_assoc}
 use Rattle.std.specs.Prelude.{IsTrue}
 use Rattle.std.proofs.lemmas.List.{take-append-le}
 use Rattle.sg_cut.specs.Cut.{Cut}
@@ -9,7 +9,7 @@ use Rattle.sg_cut.specs.declared.outcome.Piece.TheVariants.{Statement, TooLong, 
 use Rattle.sg_cut.proofs.Outcomes.{outcome_found, same_outcome, statement-append, too_long-append, text-append, rest-append}
 use Rattle.sg_meaning.specs.Vars.{Vars}
 use Rattle.sg_rows.specs.declared.fault.Fault.TheVariants as fault
-use Rattle.sg_play.specs.Record.{Record, Refusal, Played, refused, waiting, after, IsFrontOf}
+use Rattle.sg_play.specs.Record.{Played, refused, waiting, after, IsFrontOf}
 use Rattle.sg_play.specs.Play.{Turn, stops, goes, ends_at, Takes, PlaysFrom, last, next}
 use Rattle.sg_play.proofs.Turns.{takes-one, takes-same, waits-there, waits-empty, waiting-waits, goes-one}
 

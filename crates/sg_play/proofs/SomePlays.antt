@@ -1,5 +1,5 @@
 -- Some bytes are played to an end: a first piece is there, it comes to a turn, and behind a statement fewer bytes are left.
-use Rattle.std.proofs.Common.{◌≡◌, ℕ, zero, suc, ◌+◌, ◌-◌, ◌<◌, ◌≤◌, List, [], length, take, drop, Bool, true, false, Result, Ok, Err, refl, length-drop, arith}
+use Rattle.std.proofs.Common.{ℕ, zero, suc, ◌+◌, ◌<◌, List, [], length, take, drop, Bool, true, false, Result, Ok, Err, refl, length-drop, arith}
 use Rattle.std.specs.Prelude.{slice_range, ⊤}
 use Rattle.sg_cut.specs.Cut.{Cut}
 use Rattle.sg_cut.specs.Lines.{count_of_line_feeds, line_of}
@@ -12,7 +12,7 @@ use Rattle.sg_script.specs.Outcome.{Outcome, a_tree, too_deep, no_statement}
 use Rattle.sg_script.proofs.SomeOutcome.{some-outcome}
 use Rattle.sg_meaning.specs.Vars.{Vars}
 use Rattle.sg_meaning.specs.Lawful.{AreLawfulVars}
-use Rattle.sg_meaning.specs.Statements.{Going, on, ended, whole as meaning}
+use Rattle.sg_meaning.specs.Statements.{Going, on, ended}
 use Rattle.sg_meaning.proofs.LawfulStatements.{statement_some}
 use Rattle.sg_play.specs.Record.{Played, done, refused, waiting, after}
 use Rattle.sg_play.specs.Play.{Turn, stops, goes, ends_at, ends_between, refused_at, executed, Performs, Takes, PlaysFrom, last, next}

@@ -1,14 +1,14 @@
 -- What a play has written that was left before its end.
-use Rattle.std.specs.Prelude.{◌≡◌, ℕ, ◌+◌, Bool, false, List, [], ◌++◌, drop, take, slice_range}
+use Rattle.std.specs.Prelude.{ℕ, ◌+◌, Bool, false, List, [], ◌++◌, drop, take, slice_range}
 use Rattle.sg_cut.specs.Cut.{Cut}
-use Rattle.sg_cut.specs.Lines.{count_of_line_feeds, line_of}
+use Rattle.sg_cut.specs.Lines.{count_of_line_feeds}
 use Rattle.sg_cut.specs.declared.outcome.Piece.TheVariants.{Statement}
 use Rattle.sg_tree.specs.Tree.{Code}
 use Rattle.sg_script.specs.Outcome.{a_tree, IsReadAs}
 use Rattle.sg_meaning.specs.Vars.{Vars}
 use Rattle.sg_meaning.specs.Process.{Breaks}
 use Rattle.sg_meaning.specs.Statements.{whole as meaning}
-use Rattle.sg_play.specs.Record.{Record, Refusal, IsFrontOf, marked, out, err}
+use Rattle.sg_play.specs.Record.{Record, Refusal, IsFrontOf, marked, out}
 use Rattle.sg_play.specs.Play.{goes, Takes}
 
 -- the first statement of the bytes, from `begin` up to `end`, has this tree
