@@ -1,5 +1,5 @@
 -- Chains of vectors, from one of a list to all: the nearest that is not reached is reached next.
-use Rattle.std.proofs.Common.{◌≡◌, ◌≢◌, ℕ, zero, suc, ◌+◌, ◌-◌, ◌<◌, ◌≤◌, List, [], ◌∷◌, length, get_or, sum, min, max, refl, sym, ap, subst, ◌∙◌, inl, inr, arith}
+use Rattle.std.proofs.Common.{◌≡◌, ◌≢◌, ℕ, zero, suc, ◌+◌, ◌-◌, ◌<◌, ◌≤◌, List, [], ◌∷◌, length, sum, min, max, refl, sym, ap, subst, ◌∙◌, inl, inr, arith}
 use Rattle.std.specs.Prelude.{◌⊎◌, ◌↔◌, Contains, slice_index, slice_index_or}
 use Rattle.std.proofs.lemmas.Bool.{cases_lt, cases_eq}
 use Rattle.std.proofs.lemmas.List.{get_or_default}
@@ -88,7 +88,6 @@ reached-first rows R near some long_ first others = record {
 
 module _ (rows : List (List ℕ)) (R : ℕ) (near new : List ℕ) (c next : ℕ) (h : IsReached rows R near c) (inside : next < length rows) (open_ : slice_index near next < R)
     (minimal : (j : ℕ) → j < length rows → slice_index near next ≤ slice_index near j) where
-
   -- from what is reached no step to the rest is shorter
   far : (i j : ℕ) → i < length rows → j < length rows → R ≤ slice_index near i → slice_index near j < R →
       slice_index near next ≤ distance (slice_index_or rows i []) (slice_index_or rows j [])
@@ -117,7 +116,6 @@ module _ (rows : List (List ℕ)) (R : ℕ) (near new : List ℕ) (c next : ℕ)
 
   module _ (many : length new ≡ length rows) (now : R ≤ slice_index new next) (kept : (j : ℕ) → j < length rows → R ≤ slice_index near j → R ≤ slice_index new j)
       (noted : (j : ℕ) → j ≢ next → j < length rows → slice_index near j < R → slice_index new j ≡ min (slice_index near j) (distance (slice_index_or rows next []) (slice_index_or rows j []))) where
-
     -- what is reached now was before, or is the next place
     reached-cases : (i : ℕ) → i < length rows → R ≤ slice_index new i → (i ≡ next) ⊎ (R ≤ slice_index near i)
     reached-cases i li hi = elim (cases_eq i next) [

@@ -1,9 +1,8 @@
 -- The steps of a program that reaches vectors one by one.
-use Rattle.std.proofs.Common.{◌≡◌, ◌≢◌, ℕ, zero, suc, ◌+◌, ◌-◌, ◌<◌, ◌≤◌, ◌^◌, List, [], ◌∷◌, length, set, sum, min, max, refl, sym, ap, subst, ◌∙◌, arith}
+use Rattle.std.proofs.Common.{◌≡◌, ◌≢◌, ℕ, ◌-◌, ◌<◌, ◌≤◌, List, [], ◌∷◌, length, set, sum, min, max, ap, ◌∙◌, arith}
 use Rattle.std.specs.Prelude.{slice_index, slice_index_or, EachIndex}
 use Rattle.std.proofs.lemmas.List.{length-set, get_or-set_same, get_or-set_other}
 use Rattle.std.proofs.lemmas.List.Sums.{sum_by-cons}
-use Rattle.std.proofs.lemmas.Bool.{cases_eq}
 use Rattle.sg_defs.specs.Vectors.{minus, meet, distance}
 use Rattle.sg_factor.specs.Nearness.{AreComparable}
 use Rattle.sg_factor.proofs.ReachLemmas.{IsReached, reached-first, reached-more, open_count, open-fewer}
@@ -68,8 +67,8 @@ module _ (rows : List (List ℕ)) (R : ℕ) where
     reach-step minimal =
         reached-more rows R near new c next h inside open_ (λ j l. minimal j (omega (arith, h.long, l))) many_here now_here kept_here
         (λ j other l rest.
-            let at = get_or-set_other near next j R 0 other in
-            n.noted j (omega (arith, many_here, l)) (omega (arith, at, rest)) ∙ ap (λ k. min k (distance (slice_index_or rows next []) (slice_index_or rows j []))) at)
+        let at = get_or-set_other near next j R 0 other in
+        n.noted j (omega (arith, many_here, l)) (omega (arith, at, rest)) ∙ ap (λ k. min k (distance (slice_index_or rows next []) (slice_index_or rows j []))) at)
 
     -- so fewer are open
     pub reach-fewer : open_count R new < open_count R near

@@ -1,5 +1,4 @@
-use Rattle.std.proofs.Common.{◌≡◌, ℕ, ◌-◌, ◌<◌, ◌≤◌, ◌^◌, [], List, length, set, max, sym, subst, arith}
-use Rattle.std.specs.Prelude.{slice_index}
+use Rattle.std.proofs.Common.{◌<◌, ◌^◌, length, set, sym, subst, arith}
 use Rattle.sg_factor.specs.declared.catenary.TheConstants.{REACHED}
 use Rattle.sg_factor.proofs.ReachLemmas.{IsReached, reached-all}
 use Rattle.sg_factor.proofs.ReachSteps.{AreNoted, reach-init, reach-step, reach-fewer}

@@ -1,10 +1,10 @@
-use Rattle.std.proofs.Common.{◌≡◌, ℕ, ◌+◌, ◌<◌, ◌≤◌, ◌^◌, [], List, length, get_or, set, sum, min, sym, ap, subst, ◌∙◌, inl, inr, arith}
+use Rattle.std.proofs.Common.{◌≡◌, ℕ, ◌<◌, ◌^◌, [], List, length, set, sum, sym, ap, subst, ◌∙◌, inl, inr, arith}
 use Rattle.std.specs.Prelude.{slice_index, slice_index_or}
 use Rattle.std.proofs.lemmas.Bool.{cases_lt}
 use Rattle.std.proofs.lemmas.List.{set-get_or}
 use Rattle.sg_defs.specs.Vectors.{distance}
 use Rattle.sg_factor.specs.declared.catenary.TheConstants.{REACHED}
-use Rattle.sg_factor.proofs.NoteLemmas.{AreNotedUpTo, noted-first, noted-next, read-row}
+use Rattle.sg_factor.proofs.NoteLemmas.{noted-first, noted-next, read-row}
 use Rattle.sg_factor.proofs.catenary.note_distances.Goals as goal
 
 pub loop-place-init : goal.loop-place-init

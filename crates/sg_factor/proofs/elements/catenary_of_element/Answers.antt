@@ -1,4 +1,4 @@
-use Rattle.std.proofs.Common.{◌≡◌, ℕ, List, IfOk, OnOk, to_z, of_z, w64}
+use Rattle.std.proofs.Common.{ℕ, List, IfOk, OnOk, to_z, of_z, w64}
 use Rattle.std.proofs.lemmas.Int.{to_z-of_z}
 use Rattle.sg_nonunique.specs.Catenary.{IsCatenaryOf}
 use Rattle.sg_nonunique.specs.Counts.{Exceeds}
