@@ -1,9 +1,10 @@
 -- The values of the canonical relations are the Betti elements, and none of these is past the span.
-use Rattle.std.proofs.Common.{◌≡◌, ℕ, ◌+◌, ◌-◌, ◌%◌, ◌<◌, ◌≤◌, List, length, get_or, refl, subst, inl, inr, arith}
+use Rattle.std.proofs.Common.{◌≡◌, ℕ, ◌+◌, ◌-◌, ◌%◌, ◌<◌, ◌≤◌, List, length, get_or, refl, sym, subst, inl, inr, arith}
 use Rattle.std.specs.Prelude.{◌⊎◌, ◌↔◌, ℤ, pos, negsuc, ◌+ℤ◌, All, Contains}
 use Rattle.std.specs.List.Sorted.{IsStrictlyIncreasing}
 use Rattle.std.proofs.lemmas.Bool.{cases_lt}
 use Rattle.std.proofs.lemmas.Int.{ints}
+use Rattle.std.proofs.lemmas.List.{get_or_default}
 use Rattle.sg_defs.specs.Apery.{IsAperyEntry}
 use Rattle.sg_defs.specs.Invariants.{IsFrobenius}
 use Rattle.sg_defs.specs.Membership.{IsFactorization}
@@ -52,6 +53,18 @@ module _ (G : List ℕ) (positive : All (λ g. 1 ≤ g) G) where
           refl,
         )),
   )
+
+-- so are these values in a list
+pub listed-values : (G : List ℕ) → All (λ g. 1 ≤ g) G → (P : List (Relation ℕ)) (found values : List ℕ) → IsCanonical (◌<◌) (IsFactorization G) P → ((n : ℕ) → Contains found n ↔ IsValueOf P n) → values ≡ found →
+    (n : ℕ) → Contains values n ↔ HasTwoClasses (IsFactorization G n)
+listed-values G positive P found values c listed e n = (
+  (λ h. (values-betti G positive P c n).0 ((listed n).0 (subst (λ l. Contains l n) e h))),
+  (λ h. subst (λ l. Contains l n) (sym e) ((listed n).1 ((values-betti G positive P c n).1 h))),
+)
+
+-- each of them has two classes
+pub all-betti : (G values : List ℕ) → ((n : ℕ) → Contains values n ↔ HasTwoClasses (IsFactorization G n)) → All (λ n. HasTwoClasses (IsFactorization G n)) values
+all-betti G values betti = λ k d l. (betti (get_or values k d)).0 (k, l, get_or_default values k (get_or values k d) d l)
 
 -- an Apery element and the last generator together are not past the span
 entry-within : (G : List ℕ) (f : ℤ) (m i w s last : ℕ) → IsFrobenius G f → IsAperyEntry G m i w → pos s ≡ ((f +ℤ pos m) +ℤ pos last) → w + last ≤ s

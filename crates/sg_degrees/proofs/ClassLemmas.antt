@@ -107,6 +107,10 @@ row-vertices V rows r c there =
     let lists : Lists (AreConnected V (get_or r 0 0)) r = subst (λ s. Lists (AreConnected V (get_or s 0 0)) s) there.2 (c.connected there.0 r there.1) in
     λ k d l. connected-end V (get_or r 0 0) (get_or r k d) ((lists.exactly (get_or r k d)).0 (k, l, get_or_default r k (get_or r k d) d l))
 
+-- and each has one
+pub row-some : (V : List ℕ → Type 0) (rows : List (List ℕ)) (r : List ℕ) → AreComponents V rows → Contains rows r → 0 < length r
+row-some V rows r c there = subst (λ s. 0 < length s) there.2 (c.not_empty there.0 r there.1)
+
 -- the greatest of the least lengths at the components is that of the classes
 pub longest-from_rows : (G : List ℕ) (n : ℕ) (rows : List (List ℕ)) (N : ℕ) → 0 < n → AreComponents (IsFactorization G n) rows → HasTwoClasses (IsFactorization G n) →
     IsGreatestOver (IsShortestAt (IsFactorization G n)) rows N → IsLongestClass (IsFactorization G n) N

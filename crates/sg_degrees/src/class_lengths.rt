@@ -34,7 +34,8 @@ fn shortest(generators: &[u64], n: u64, least: &[u64], row: &[u64]) -> u64
 {
     let mut shortest = shortest_with(generators, n, least, row[0]);
     for k in 1..row.len() {
-        shortest = shortest.min(shortest_with(generators, n, least, row[k]));
+        let length = shortest_with(generators, n, least, row[k]);
+        shortest = shortest.min(length);
     }
     shortest
 }
@@ -48,7 +49,8 @@ fn longest_row(generators: &[u64], n: u64, least: &[u64], rows: &[Nats]) -> u64
 {
     let mut longest = 0u64;
     for row in rows {
-        longest = longest.max(shortest(generators, n, least, row.as_slice()));
+        let length = shortest(generators, n, least, row.as_slice());
+        longest = longest.max(length);
     }
     longest
 }

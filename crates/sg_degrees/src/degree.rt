@@ -33,7 +33,8 @@ fn longest_of(
 {
     let mut longest = 0u64;
     for n in values {
-        longest = longest.max(longest_class(alloc, t, generators, *n, least)?);
+        let length = longest_class(alloc, t, generators, *n, least)?;
+        longest = longest.max(length);
     }
     Ok(longest)
 }

@@ -46,7 +46,8 @@ fn widest_delta(alloc: Global, table: &LengthTable, values: &[u64]) -> Result<u6
 {
     let mut widest = 0u64;
     for n in values {
-        widest = widest.max(widest_of(alloc, table, *n)?);
+        let delta = widest_of(alloc, table, *n)?;
+        widest = widest.max(delta);
     }
     Ok(widest)
 }

@@ -1,0 +1,21 @@
+use Rattle.std.proofs.Common.{◌≡◌, ◌<◌, ◌≤◌, ℕ, List, length, get_or, max, sym, ap, subst, ◌∙◌, arith}
+use Rattle.std.specs.Prelude.{◌⊎◌, ◌↔◌, Contains, Some, None}
+use Rattle.sg_defs.specs.Membership.{IsFactorization}
+use Rattle.sg_nonunique.specs.Classes.{HasTwoClasses}
+use Rattle.sg_nonunique.specs.Deltas.{IsMinDelta, IsMaxDelta}
+use Rattle.sg_degrees.specs.Greatest.{IsGreatestOver}
+use Rattle.sg_degrees.specs.Lengths.{IsWidest}
+use Rattle.sg_degrees.proofs.BettiLemmas.{greatest-within, listed-values}
+use Rattle.sg_degrees.proofs.DeltaLemmas.{max-from_values, max-none}
+use Rattle.sg_degrees.proofs.deltas.max_delta.Goals as goal
+
+pub new-table-requires : goal.new-table-requires
+new-table-requires c =
+    let G = c.args.t.now in
+    let s = c.generators.ensures.semigroup in
+    let betti = listed-values G s.positive c.args.p.now c.in_ok-found.found c.as_slice-values.result.now c.requires.canonical c.in_ok-found.ensures c.as_slice-values.ensures in
+    greatest-within G c.as_slice-values.result.now c.greatest.result c.requires.presentable.span _ s.positive c.generators.ensures.minimal.ascending c.requires.presentable.is_span c.requires.presentable.short
+    (λ n h. (betti n).0 h) c.greatest.ensures.reached
+
+pub widest_delta-requires : goal.widest_delta-requires
+widest_delta-requires c = λ k d l. omega (arith, c.greatest.ensures.bound k d l, c.in_ok-table.ensures.upto)
