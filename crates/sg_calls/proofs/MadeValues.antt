@@ -8,8 +8,8 @@ use Rattle.sg_value.specs.declared.value.Value.{Value}
 use Rattle.sg_value.specs.declared.value.Value.TheVariants as value
 use Rattle.std.specs.Prelude.{pos}
 use Rattle.sg_rows.specs.Made.{datum}
-use Rattle.sg_rows.specs.Order.{Delivers, InBits, IsReply, fits}
-use Rattle.sg_rows.specs.Replies.{Replies}
+use Rattle.sg_rows.specs.Order.{Delivers, InBits, IsReplyOf}
+use Rattle.sg_rows.specs.Replies.{RepliesOf}
 use Rattle.sg_rows.specs.Values.{answers}
 use Rattle.sg_rows.specs.declared.fault.CallFault.TheVariants.{Script}
 use Rattle.sg_rows.specs.declared.fault.Fault.TheVariants.{TooLarge}
@@ -75,10 +75,10 @@ light_delivers (Semigroup G) bits few = delivers_single (datum (Semigroup G)) bi
 light_delivers (Ideal G I) bits few = delivers_single (datum (Ideal G I)) bits refl refl
 
 -- the value of what is not too heavy is the reply
-pub value_replies : (store : Known) (m : Made) (v : Value) → IsValueOf store m v → entries_made m < WEIGHT_LIMIT → Replies (Ok v) store (fits (answers (λ d. d ≡ datum m)))
+pub value_replies : (store : Known) (m : Made) (v : Value) → IsValueOf store m v → entries_made m < WEIGHT_LIMIT → RepliesOf (Ok v) store (answers (λ d. d ≡ datum m))
 value_replies store m v h few =
     let row = answers (λ d. d ≡ datum m) in
-    (subst (λ d. IsReply (fits row) (Ok d)) (sym h.is) (delivered row (datum m) (Ok (datum m)) (answers_pass (λ d. d ≡ datum m)) refl (light_delivers m h.bits few)), h.known)
+    (subst (λ d. IsReplyOf row (Ok d)) (sym h.is) (delivered row (datum m) (Ok (datum m)) (answers_pass (λ d. d ≡ datum m)) refl (light_delivers m h.bits few)), h.known)
 
 delivers_too_heavy : (m : Made) → WEIGHT_LIMIT ≤ entries_made m → Delivers (datum m) (Err TooLarge)
 delivers_too_heavy (Integers zs) many = delivers_heavy_integers zs many
@@ -87,5 +87,5 @@ delivers_too_heavy (Semigroups L) many = delivers_heavy_semigroups L many
 delivers_too_heavy _ many = absurd (omega (arith, many))
 
 -- what is too heavy is refused
-pub heavy_replies : (store : Known) (m : Made) → WEIGHT_LIMIT ≤ entries_made m → Replies (Err (Script TooLarge)) store (fits (answers (λ d. d ≡ datum m)))
+pub heavy_replies : (store : Known) (m : Made) → WEIGHT_LIMIT ≤ entries_made m → RepliesOf (Err (Script TooLarge)) store (answers (λ d. d ≡ datum m))
 heavy_replies store m many = delivered (answers (λ d. d ≡ datum m)) (datum m) (Err TooLarge) (answers_pass (λ d. d ≡ datum m)) refl (delivers_too_heavy m many)

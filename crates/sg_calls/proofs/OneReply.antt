@@ -1,8 +1,9 @@
 -- Commands and operators have one reply.
-use Rattle.std.proofs.Common.{ℕ, ℤ, List, Option, Some, None, sym, ◌∙◌}
+use Rattle.std.proofs.Common.{ℕ, ℤ, List, Option, Some, None, sym, ◌∙◌, [], ◌∷◌}
 use Rattle.sg_value.specs.Plain.{Things}
 use Rattle.sg_defs.specs.Membership.{IsIntegerMember}
 use Rattle.sg_value.specs.Data.{Items}
+use Rattle.sg_rows.specs.Asks.{apery_table, nothing}
 use Rattle.sg_rows.specs.Order.{Plain, IsReply}
 use Rattle.sg_rows.specs.Entries.{IsEntry, entry_count}
 use Rattle.sg_rows.specs.Forms.{on_integer_and_semigroup, on_integer_and_ideal, on_list_and_semigroup, on_two_ideals}
@@ -58,20 +59,20 @@ of_integers_one op a b = given_one (two_integers a b) (λ p. calculation op p.0 
 
 membership_one : (a b : Plain) → OneValue (membership a b)
 membership_one a b =
-    let of_semigroup = on_integer_and_semigroup a b (λ x G. answers (whether (IsIntegerMember G x))) in
-    or_else_one (fitted (as_list b) (λ ds. answers (whether (IsEntry a ds)))) _ (fitted_one (as_list b) (λ ds. answers (whether (IsEntry a ds))) (λ ds. whether_one (IsEntry a ds)))
-    (or_else_one of_semigroup (on_integer_and_ideal a b member_row) (on_integer_and_semigroup_one (λ x G. answers (whether (IsIntegerMember G x))) (λ x G. whether_one (IsIntegerMember G x)) a b) (member_one a b))
+    let of_semigroup = on_integer_and_semigroup (apery_table ∷ []) a b (λ x G. answers (whether (IsIntegerMember G x))) in
+    or_else_one (fitted (as_list b) nothing (λ ds. answers (whether (IsEntry a ds)))) _ (fitted_one (as_list b) nothing (λ ds. answers (whether (IsEntry a ds))) (λ ds. whether_one (IsEntry a ds)))
+    (or_else_one of_semigroup (on_integer_and_ideal (apery_table ∷ []) a b member_row) (on_integer_and_semigroup_one _ (λ x G. answers (whether (IsIntegerMember G x))) (λ x G. whether_one (IsIntegerMember G x)) a b) (member_one _ a b))
 
 moved_one : (a b : Plain) → OneValue (moved_or_generated a b)
-moved_one a b = or_else_one (on_integer_and_ideal a b translate_row) (on_list_and_semigroup a b generated_row) (translate_one a b) (generated_one a b)
+moved_one a b = or_else_one (on_integer_and_ideal (apery_table ∷ []) a b translate_row) (on_list_and_semigroup (apery_table ∷ []) a b generated_row) (translate_one _ a b) (generated_one _ a b)
 
 operation_one : (op : Operator) (a b : Plain) → OneValue (operation op a b)
 operation_one Eq a b = whether_one _
 operation_one Ne a b = whether_one _
 operation_one Member a b = membership_one a b
-operation_one Plus a b = or_else_one (of_integers Plus a b) _ (of_integers_one Plus a b) (or_else_one (on_two_ideals a b (pair_row Sum)) (moved_or_generated a b) (pair_one Sum a b) (moved_one a b))
-operation_one Less a b = or_else_one (of_integers Less a b) (on_two_ideals a b (pair_row Difference)) (of_integers_one Less a b) (pair_one Difference a b)
-operation_one Times a b = or_else_one (of_integers Times a b) (on_integer_and_ideal a b multiple_row) (of_integers_one Times a b) (multiple_one a b)
+operation_one Plus a b = or_else_one (of_integers Plus a b) _ (of_integers_one Plus a b) (or_else_one (on_two_ideals (apery_table ∷ []) a b (pair_row Sum)) (moved_or_generated a b) (pair_one _ Sum a b) (moved_one a b))
+operation_one Less a b = or_else_one (of_integers Less a b) (on_two_ideals (apery_table ∷ []) a b (pair_row Difference)) (of_integers_one Less a b) (pair_one _ Difference a b)
+operation_one Times a b = or_else_one (of_integers Times a b) (on_integer_and_ideal (apery_table ∷ []) a b multiple_row) (of_integers_one Times a b) (multiple_one _ a b)
 operation_one Mod a b = of_integers_one Mod a b
 operation_one Lt a b = of_integers_one Lt a b
 operation_one Le a b = of_integers_one Le a b
@@ -84,7 +85,7 @@ operators_one op a b = reply_one (operation op a b) (operation_one op a b)
 
 -- the minus sign has one
 pub sign_one : (a : Plain) → One (IsReply (negation a))
-sign_one a = reply_one (negation a) (fitted_one (as_integer a) _ (λ x. is_one _))
+sign_one a = reply_one (negation a) (fitted_one (as_integer a) nothing _ (λ x. is_one _))
 
 -- ---- commands
 

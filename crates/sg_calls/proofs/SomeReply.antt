@@ -1,5 +1,5 @@
 -- Commands and operators have a reply, over what is lawful.
-use Rattle.std.proofs.Common.{◌≡◌, ℕ, ℤ, pos, List, Option, Some, None, Err, refl}
+use Rattle.std.proofs.Common.{◌≡◌, ℕ, ℤ, pos, List, Option, Some, None, Err, refl, [], ◌∷◌}
 use Rattle.std.specs.Prelude.{◌+ℤ◌, ◌-ℤ◌, ◌*ℤ◌, ◌≤ℤ◌, ◌<ℤ◌, ⊤}
 use Rattle.std.specs.Int.{int_rem_euclid}
 use Rattle.sg_value.specs.Plain.{Things}
@@ -7,6 +7,7 @@ use Rattle.sg_defs.specs.Membership.{IsIntegerMember}
 use Rattle.sg_laws_invariants.proofs.Decisions.{decided-eq_z, decided-le_z, decided-lt_z, decided-not}
 use Rattle.sg_laws_invariants.proofs.InvariantsExist.{integer_member-decided}
 use Rattle.sg_value.specs.Data.{int, Items}
+use Rattle.sg_rows.specs.Asks.{apery_table, nothing}
 use Rattle.sg_rows.specs.Order.{Plain, IsReply}
 use Rattle.sg_rows.specs.Entries.{IsEntry, entry_count}
 use Rattle.sg_rows.specs.Forms.{on_integer_and_semigroup, on_integer_and_ideal, on_list_and_semigroup, on_two_ideals}
@@ -65,23 +66,23 @@ of_integers_some op a b = given_some (λ p. ⊤) (two_integers a b) (λ p. calcu
 
 membership_some : (a b : Plain) → IsLawful b → SomeValue (membership a b)
 membership_some a b l =
-    let of_semigroup = on_integer_and_semigroup a b (λ x G. answers (whether (IsIntegerMember G x))) in
-    or_else_some (fitted (as_list b) (λ ds. answers (whether (IsEntry a ds)))) _
-    (fitted_some (λ ds. ⊤) (as_list b) (λ ds. answers (whether (IsEntry a ds))) (any_some (as_list b)) (λ ds u. answers_some _ (whether_some (IsEntry a ds) (entry-decided a ds))))
-    (or_else_some of_semigroup (on_integer_and_ideal a b member_row)
-    (on_integer_and_semigroup_some (λ x G. answers (whether (IsIntegerMember G x))) (λ x G g. answers_some _ (whether_some (IsIntegerMember G x) (integer_member-decided G x))) a b l)
-    (member_some a b l))
+    let of_semigroup = on_integer_and_semigroup (apery_table ∷ []) a b (λ x G. answers (whether (IsIntegerMember G x))) in
+    or_else_some (fitted (as_list b) nothing (λ ds. answers (whether (IsEntry a ds)))) _
+    (fitted_some (λ ds. ⊤) (as_list b) nothing (λ ds. answers (whether (IsEntry a ds))) (any_some (as_list b)) (λ ds u. answers_some _ (whether_some (IsEntry a ds) (entry-decided a ds))))
+    (or_else_some of_semigroup (on_integer_and_ideal (apery_table ∷ []) a b member_row)
+    (on_integer_and_semigroup_some _ (λ x G. answers (whether (IsIntegerMember G x))) (λ x G g. answers_some _ (whether_some (IsIntegerMember G x) (integer_member-decided G x))) a b l)
+    (member_some _ a b l))
 
 moved_some : (a b : Plain) → IsLawful b → SomeValue (moved_or_generated a b)
-moved_some a b l = or_else_some (on_integer_and_ideal a b translate_row) (on_list_and_semigroup a b generated_row) (translate_some a b l) (generated_some a b l)
+moved_some a b l = or_else_some (on_integer_and_ideal (apery_table ∷ []) a b translate_row) (on_list_and_semigroup (apery_table ∷ []) a b generated_row) (translate_some _ a b l) (generated_some _ a b l)
 
 operation_some : (op : Operator) (a b : Plain) → IsLawful a → IsLawful b → SomeValue (operation op a b)
 operation_some Eq a b l m = answers_some _ (whether_some (a ≡ b) (data-decided a b))
 operation_some Ne a b l m = answers_some _ (whether_some (a ≡ b → ⊥) (decided-not (a ≡ b) (data-decided a b)))
 operation_some Member a b l m = membership_some a b m
-operation_some Plus a b l m = or_else_some (of_integers Plus a b) _ (of_integers_some Plus a b) (or_else_some (on_two_ideals a b (pair_row Sum)) (moved_or_generated a b) (pair_some Sum a b l m) (moved_some a b m))
-operation_some Less a b l m = or_else_some (of_integers Less a b) (on_two_ideals a b (pair_row Difference)) (of_integers_some Less a b) (pair_some Difference a b l m)
-operation_some Times a b l m = or_else_some (of_integers Times a b) (on_integer_and_ideal a b multiple_row) (of_integers_some Times a b) (multiple_some a b m)
+operation_some Plus a b l m = or_else_some (of_integers Plus a b) _ (of_integers_some Plus a b) (or_else_some (on_two_ideals (apery_table ∷ []) a b (pair_row Sum)) (moved_or_generated a b) (pair_some _ Sum a b l m) (moved_some a b m))
+operation_some Less a b l m = or_else_some (of_integers Less a b) (on_two_ideals (apery_table ∷ []) a b (pair_row Difference)) (of_integers_some Less a b) (pair_some _ Difference a b l m)
+operation_some Times a b l m = or_else_some (of_integers Times a b) (on_integer_and_ideal (apery_table ∷ []) a b multiple_row) (of_integers_some Times a b) (multiple_some _ a b m)
 operation_some Mod a b l m = of_integers_some Mod a b
 operation_some Lt a b l m = of_integers_some Lt a b
 operation_some Le a b l m = of_integers_some Le a b
@@ -94,7 +95,7 @@ operators_some op a b l m = reply_some (operation op a b) (operation_some op a b
 
 -- the minus sign has one
 pub sign_some : (a : Plain) → SomeReply (IsReply (negation a))
-sign_some a = reply_some (negation a) (fitted_some (λ x. ⊤) (as_integer a) _ (any_some (as_integer a)) (λ x l. answers_some _ (is_some_value (int (pos 0 -ℤ x)) tt)))
+sign_some a = reply_some (negation a) (fitted_some (λ x. ⊤) (as_integer a) nothing _ (any_some (as_integer a)) (λ x l. answers_some _ (is_some_value (int (pos 0 -ℤ x)) tt)))
 
 -- ---- commands
 

@@ -4,8 +4,8 @@ use Rattle.sg_value.specs.Known.{Known, named}
 use Rattle.sg_value.specs.Plain.{AllKnown, plain}
 use Rattle.sg_value.specs.declared.value.Value.{Value}
 use Rattle.sg_rows.specs.Made.{datum}
-use Rattle.sg_rows.specs.Order.{InBits, fits}
-use Rattle.sg_rows.specs.Replies.{Replies}
+use Rattle.sg_rows.specs.Order.{InBits}
+use Rattle.sg_rows.specs.Replies.{RepliesOf}
 use Rattle.sg_rows.specs.Values.{answers}
 use Rattle.sg_rows.specs.declared.fault.CallFault.{CallFault}
 use Rattle.sg_rows.specs.declared.made.Made.{Made}
@@ -26,5 +26,5 @@ entries_made _ = 0
 
 -- what was made is the reply, or its refusal where it is too heavy; else it is the refusal of the row
 abbrev pub IsDelivered : Result Made CallFault → Known → Result Value CallFault → Type 0
-IsDelivered (Ok m) store r = Replies r store (fits (answers (λ d. d ≡ datum m)))
+IsDelivered (Ok m) store r = RepliesOf r store (answers (λ d. d ≡ datum m))
 IsDelivered (Err e) store r = r ≡ Err e

@@ -4,6 +4,8 @@
 ghost use Rattle.sg_value.specs.Known.{named};
 ghost use Rattle.sg_value.specs.Plain.{AllKnownIn, plain_of_all};
 ghost use Rattle.sg_store.specs.Interned.{Keeps};
+ghost use Rattle.std.specs.Prelude.{[], ◌∷◌};
+ghost use Rattle.sg_rows.specs.Asks.{apery_table};
 ghost use Rattle.sg_rows.specs.Forms.{of_ideal, of_list_then_semigroup, of_semigroup_then_integer, of_three_integers, of_two_ideals, of_two_integers, of_two_semigroups};
 ghost use Rattle.sg_rows.specs.Replies.{Replies};
 ghost use Rattle.sg_rows_lists.specs.Lists as lists;
@@ -90,7 +92,7 @@ fn of_proportional(alloc: Global, store: &mut Store, args: &[Value]) -> Result<V
 /// The quotient of a semigroup by an integer.
 fn of_quotient(alloc: Global, store: &mut Store, args: &[Value]) -> Result<Value, CallFault>
     requires { AllKnownIn (named store.old) args.now }
-    ensures reply { Replies result store.new (of_semigroup_then_integer (plain_of_all (named store.old) args.now) quotient_row) }
+    ensures reply { Replies result store.new (of_semigroup_then_integer (apery_table ∷ []) (plain_of_all (named store.old) args.now) quotient_row) }
     ensures keeps { Keeps store.old store.new }
 {
     if args.len() != 2 {
@@ -105,7 +107,7 @@ fn of_quotient(alloc: Global, store: &mut Store, args: &[Value]) -> Result<Value
 /// The intersection of two semigroups.
 fn of_intersection(alloc: Global, store: &mut Store, args: &[Value]) -> Result<Value, CallFault>
     requires { AllKnownIn (named store.old) args.now }
-    ensures reply { Replies result store.new (of_two_semigroups (plain_of_all (named store.old) args.now) intersection_row) }
+    ensures reply { Replies result store.new (of_two_semigroups (apery_table ∷ []) (plain_of_all (named store.old) args.now) intersection_row) }
     ensures keeps { Keeps store.old store.new }
 {
     if args.len() != 2 {
@@ -197,7 +199,7 @@ fn of_ideal_fact(
     args: &[Value],
 ) -> Result<Value, CallFault>
     requires { AllKnownIn (named store.old) args.now }
-    ensures reply { Replies result store.new (of_ideal (plain_of_all (named store.old) args.now) (fact_row fact)) }
+    ensures reply { Replies result store.new (of_ideal [] (plain_of_all (named store.old) args.now) (fact_row fact)) }
     ensures keeps { Keeps store.old store.new }
 {
     let Some((ambient, generators)) = one_ideal_by_lists(store, args) else {
@@ -210,7 +212,7 @@ fn of_ideal_fact(
 /// The ideal that a list of integers generates over a semigroup.
 fn of_generated(alloc: Global, store: &mut Store, args: &[Value]) -> Result<Value, CallFault>
     requires { AllKnownIn (named store.old) args.now }
-    ensures reply { Replies result store.new (of_list_then_semigroup (plain_of_all (named store.old) args.now) generated_row) }
+    ensures reply { Replies result store.new (of_list_then_semigroup (apery_table ∷ []) (plain_of_all (named store.old) args.now) generated_row) }
     ensures keeps { Keeps store.old store.new }
 {
     if args.len() != 2 {
@@ -225,7 +227,7 @@ fn of_generated(alloc: Global, store: &mut Store, args: &[Value]) -> Result<Valu
 /// An ideal of two.
 fn of_pair(alloc: Global, store: &mut Store, pair: Pair, args: &[Value]) -> Result<Value, CallFault>
     requires { AllKnownIn (named store.old) args.now }
-    ensures reply { Replies result store.new (of_two_ideals (plain_of_all (named store.old) args.now) (pair_row pair)) }
+    ensures reply { Replies result store.new (of_two_ideals (apery_table ∷ []) (plain_of_all (named store.old) args.now) (pair_row pair)) }
     ensures keeps { Keeps store.old store.new }
 {
     if args.len() != 2 {

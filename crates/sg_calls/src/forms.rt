@@ -4,6 +4,8 @@
 ghost use Rattle.sg_value.specs.Known.{named};
 ghost use Rattle.sg_value.specs.Plain.{AllKnownIn, plain_of_all};
 ghost use Rattle.sg_store.specs.Interned.{Keeps};
+ghost use Rattle.std.specs.Prelude.{[], ◌∷◌};
+ghost use Rattle.sg_rows.specs.Asks.{apery_table, pseudo_frobenius};
 ghost use Rattle.sg_rows.specs.Forms.{of_list, of_list_or_integers, of_semigroup, of_semigroup_and_integer};
 ghost use Rattle.sg_rows.specs.Replies.{Replies};
 
@@ -60,7 +62,7 @@ pub fn of_generators<R: OfGenerators + Copy>(
     args: &[Value],
 ) -> Result<Value, CallFault>
     requires { AllKnownIn (named store.old) args.now }
-    ensures reply { Replies result store.new (of_semigroup (plain_of_all (named store.old) args.now) (R.says row)) }
+    ensures reply { Replies result store.new (of_semigroup [] (plain_of_all (named store.old) args.now) (R.says row)) }
     ensures keeps { Keeps store.old store.new }
 {
     let Some(generators) = one_list_of_generators(store, args) else {
@@ -78,7 +80,7 @@ pub fn of_table<R: OfTable + Copy>(
     args: &[Value],
 ) -> Result<Value, CallFault>
     requires { AllKnownIn (named store.old) args.now }
-    ensures reply { Replies result store.new (of_semigroup (plain_of_all (named store.old) args.now) (R.says row)) }
+    ensures reply { Replies result store.new (of_semigroup (apery_table ∷ []) (plain_of_all (named store.old) args.now) (R.says row)) }
     ensures keeps { Keeps store.old store.new }
 {
     let Some(table) = one_table(alloc, store, args)? else {
@@ -95,7 +97,7 @@ pub fn of_numbers<R: OfNumbers + Copy>(
     args: &[Value],
 ) -> Result<Value, CallFault>
     requires { AllKnownIn (named store.old) args.now }
-    ensures reply { Replies result store.new (of_semigroup (plain_of_all (named store.old) args.now) (R.says row)) }
+    ensures reply { Replies result store.new (of_semigroup (pseudo_frobenius ∷ []) (plain_of_all (named store.old) args.now) (R.says row)) }
     ensures keeps { Keeps store.old store.new }
 {
     let Some(numbers) = one_list_of_numbers(alloc, store, args)? else {
@@ -112,7 +114,7 @@ pub fn of_table_and_numbers<R: OfTableAndNumbers + Copy>(
     args: &[Value],
 ) -> Result<Value, CallFault>
     requires { AllKnownIn (named store.old) args.now }
-    ensures reply { Replies result store.new (of_semigroup (plain_of_all (named store.old) args.now) (R.says row)) }
+    ensures reply { Replies result store.new (of_semigroup (apery_table ∷ pseudo_frobenius ∷ []) (plain_of_all (named store.old) args.now) (R.says row)) }
     ensures keeps { Keeps store.old store.new }
 {
     let Some((table, numbers)) = one_table_and_numbers(alloc, store, args)? else {
@@ -129,7 +131,7 @@ pub fn of_table_and_integer<R: OfTableAndInteger + Copy>(
     args: &[Value],
 ) -> Result<Value, CallFault>
     requires { AllKnownIn (named store.old) args.now }
-    ensures reply { Replies result store.new (of_semigroup_and_integer (plain_of_all (named store.old) args.now) (R.says row)) }
+    ensures reply { Replies result store.new (of_semigroup_and_integer (apery_table ∷ []) (plain_of_all (named store.old) args.now) (R.says row)) }
     ensures keeps { Keeps store.old store.new }
 {
     if args.len() != 2 {

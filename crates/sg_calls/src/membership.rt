@@ -1,8 +1,9 @@
 //! The operator `in`.
 
-ghost use Rattle.std.specs.Prelude.{◌≡◌, ◌↔◌, IsTrue};
+ghost use Rattle.std.specs.Prelude.{◌≡◌, ◌↔◌, IsTrue, [], ◌∷◌};
 ghost use Rattle.sg_value.specs.Known.{named};
 ghost use Rattle.sg_value.specs.Plain.{AllKnown, AllKnownIn, plain, plain_of_all};
+ghost use Rattle.sg_rows.specs.Asks.{apery_table};
 ghost use Rattle.sg_rows.specs.Replies.{Replies};
 ghost use Rattle.sg_rows.specs.Entries.{IsEntry};
 ghost use Rattle.sg_rows.specs.Forms.{on_integer_and_ideal};
@@ -38,7 +39,7 @@ fn is_in_ideal(
     whole: &Value,
 ) -> Result<Value, CallFault>
     requires { AllKnown (named store.old) whole.now }
-    ensures reply { Replies result store.new (on_integer_and_ideal (plain (named store.old) v.now) (plain (named store.old) whole.now) member_row) }
+    ensures reply { Replies result store.new (on_integer_and_ideal (apery_table ∷ []) (plain (named store.old) v.now) (plain (named store.old) whole.now) member_row) }
     ensures unchanged { store.new ≡ store.old }
 {
     let Some((x, id)) = integer_then_ideal(v, whole) else {

@@ -6,9 +6,8 @@ ghost use Rattle.sg_value.specs.Data.{int};
 ghost use Rattle.sg_value.specs.Known.{Known, named};
 ghost use Rattle.sg_value.specs.Plain.{AllKnown, plain};
 ghost use Rattle.sg_store.specs.Interned.{Keeps};
-ghost use Rattle.sg_rows.specs.Order.{fits};
 ghost use Rattle.sg_rows.specs.Values.{answers};
-ghost use Rattle.sg_rows.specs.Replies.{Replies};
+ghost use Rattle.sg_rows.specs.Replies.{Replies, RepliesOf};
 ghost use Rattle.sg_calls.specs.Operations.{calculation, of_integers, operation, moved_or_generated, negation};
 ghost use Rattle.sg_calls.specs.Remainders.{IsRemainder};
 
@@ -35,7 +34,7 @@ pub fn remainder(x: i64, y: i64) -> Option<i64>
 
 /// The integer, or that it is outside of 64 bits.
 fn integer(found: Option<i64>) -> Result<Value, CallFault>
-    ensures { (store : Known) (z : ℤ) → SomeIff found (FitsSigned w64 z) z → Replies result store (fits (answers (λ d. d ≡ int z))) }
+    ensures { (store : Known) (z : ℤ) → SomeIff found (FitsSigned w64 z) z → RepliesOf result store (answers (λ d. d ≡ int z)) }
 {
     match found {
         Some(z) => Ok(Value::Int(z)),

@@ -2,7 +2,7 @@
 use Rattle.std.proofs.Common.{◌≡◌, ℤ, Bool, Some, Ok, refl, ap, subst}
 use Rattle.std.specs.Prelude.{IsTrue, ◌<ℤ◌, ◌≤ℤ◌, ◌↔◌}
 use Rattle.sg_value.specs.Data.{int, truth}
-use Rattle.sg_rows.specs.Order.{IsReply, fits}
+use Rattle.sg_rows.specs.Order.{IsReply, IsReplyOf}
 use Rattle.sg_rows.specs.Values.{answers, whether}
 use Rattle.sg_rows.proofs.Replying.{delivered, delivers_truth, answers_pass}
 use Rattle.sg_calls.specs.Operations.{calculation}
@@ -14,7 +14,7 @@ use Rattle.sg_tree.specs.declared.expr.Rel.TheVariants.{Eq, Ne, Lt, Le, Gt, Ge}
 use Rattle.sg_eval.specs.AtOnce.{Calculates, Compares}
 use Rattle.sg_eval.specs.Linked.{arithmetic}
 
-truth_reply : (b : Bool) (P : Type 0) → (IsTrue b ↔ P) → IsReply (fits (answers (whether P))) (Ok (truth b))
+truth_reply : (b : Bool) (P : Type 0) → (IsTrue b ↔ P) → IsReplyOf (answers (whether P)) (Ok (truth b))
 truth_reply b P h = delivered (answers (whether P)) (truth b) (Ok (truth b)) (answers_pass (whether P)) (b, refl, h) (delivers_truth b)
 
 -- what an operator of a chain gives of two integers

@@ -1,5 +1,5 @@
 -- A process ends in one way where each query has one answer.
-use Rattle.std.proofs.Common.{◌≡◌, ℕ, List, ◌++◌, Result, ap, sym, ◌∙◌, subst}
+use Rattle.std.proofs.Common.{◌≡◌, ℕ, List, ◌++◌, Result, ap, sym, ◌∙◌, subst, []}
 use Rattle.std.specs.Prelude.{◌-ℤ◌}
 use Rattle.sg_value.specs.Data.{list}
 use Rattle.sg_rows.specs.Order.{Reply, fits}
@@ -19,11 +19,11 @@ pub answer_one : (q : Query) (r s : Reply) → IsAnswer q r → IsAnswer q s →
 answer_one (calls c args) r s h k = reply_one (row c args) (row_one c args) r s h k
 answer_one (combines op a b) r s h k = operators_one op a b r s h k
 answer_one (negates a) r s h k = sign_one a r s h k
-answer_one (lists ds) r s h k = reply_one (fits (answers (λ d. d ≡ list ds))) (is_one (list ds)) r s h k
+answer_one (lists ds) r s h k = reply_one (fits [] (answers (λ d. d ≡ list ds))) (is_one (list ds)) r s h k
 answer_one (spans a b) r s h k =
     reply_one (span_of a b)
-    (given_one (as_integer a) (λ x. given (as_integer b) (λ y. fits (answers (λ d. d ≡ list (integers_from x (span_count (y -ℤ x)))))))
-    (λ x. given_one (as_integer b) (λ y. fits (answers (λ d. d ≡ list (integers_from x (span_count (y -ℤ x)))))) (λ y. is_one _))) r s h k
+    (given_one (as_integer a) (λ x. given (as_integer b) (λ y. fits [] (answers (λ d. d ≡ list (integers_from x (span_count (y -ℤ x)))))))
+    (λ x. given_one (as_integer b) (λ y. fits [] (answers (λ d. d ≡ list (integers_from x (span_count (y -ℤ x)))))) (λ y. is_one _))) r s h k
 answer_one (indexes a i) r s h k = h ∙ sym k
 
 -- a process has at most one end

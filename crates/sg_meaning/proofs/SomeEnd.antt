@@ -46,11 +46,11 @@ pub answer_some : (q : Query) → IsLawfulQuery q → SomeReply (IsAnswer q)
 answer_some (calls c args) h = reply_some (row c args) (row_some c args h)
 answer_some (combines op a b) h = operators_some op a b h.0 h.1
 answer_some (negates a) h = sign_some a
-answer_some (lists ds) h = reply_some (fits (answers (λ d. d ≡ list ds))) (answers_some _ (is_some_value (list ds) h))
+answer_some (lists ds) h = reply_some (fits [] (answers (λ d. d ≡ list ds))) (answers_some _ (is_some_value (list ds) h))
 answer_some (spans a b) h =
     reply_some (span_of a b)
-    (given_some (λ x. ⊤) (as_integer a) (λ x. given (as_integer b) (λ y. fits (answers (λ d. d ≡ list (integers_from x (span_count (y -ℤ x))))))) (any_some (as_integer a))
-    (λ x l. given_some (λ y. ⊤) (as_integer b) (λ y. fits (answers (λ d. d ≡ list (integers_from x (span_count (y -ℤ x)))))) (any_some (as_integer b))
+    (given_some (λ x. ⊤) (as_integer a) (λ x. given (as_integer b) (λ y. fits [] (answers (λ d. d ≡ list (integers_from x (span_count (y -ℤ x))))))) (any_some (as_integer a))
+    (λ x l. given_some (λ y. ⊤) (as_integer b) (λ y. fits [] (answers (λ d. d ≡ list (integers_from x (span_count (y -ℤ x)))))) (any_some (as_integer b))
     (λ y m. answers_some _ (is_some_value (list (integers_from x (span_count (y -ℤ x)))) (integers_lawful x (span_count (y -ℤ x)))))))
 answer_some (indexes a i) h = (item_of (as_list a) (as_integer i), refl, item_lawful (as_list a) (as_integer i) ((as_list-each IsLawfulThing) a h.0))
 

@@ -1,8 +1,8 @@
 -- What a statement asks for while it runs, and what is answered.
-use Rattle.std.specs.Prelude.{◌≡◌, ℕ, suc, ℤ, pos, negsuc, ◌-ℤ◌, Option, Some, None, Ok, Err}
+use Rattle.std.specs.Prelude.{◌≡◌, ℕ, suc, ℤ, pos, negsuc, ◌-ℤ◌, Option, Some, None, Ok, Err, []}
 use Rattle.sg_value.specs.Plain.{Things}
 use Rattle.sg_value.specs.Data.{list, Items}
-use Rattle.sg_rows.specs.Order.{Plain, Reply, Case, fits, IsReply}
+use Rattle.sg_rows.specs.Order.{Plain, Reply, Case, fits, IsReply, IsReplyOf}
 use Rattle.sg_rows.specs.Kinds.{given, as_integer, as_list}
 use Rattle.sg_rows.specs.Values.{answers}
 use Rattle.sg_meaning.specs.Entries.{entry_at_integer, integers_from}
@@ -32,7 +32,7 @@ span_count (pos n) = suc n
 span_count (negsuc n) = 0
 
 abbrev pub span_of : Plain → Plain → Case
-span_of a b = given (as_integer a) (λ x. given (as_integer b) (λ y. fits (answers (λ d. d ≡ list (integers_from x (span_count (y -ℤ x)))))))
+span_of a b = given (as_integer a) (λ x. given (as_integer b) (λ y. fits [] (answers (λ d. d ≡ list (integers_from x (span_count (y -ℤ x)))))))
 
 abbrev pub found_or_out : Option Plain → Reply
 found_or_out (Some d) = Ok d
@@ -49,6 +49,6 @@ abbrev pub IsAnswer : Query → Reply → Type 0
 IsAnswer (calls c args) r = IsReply (row c args) r
 IsAnswer (combines op a b) r = IsReply (operation op a b) r
 IsAnswer (negates a) r = IsReply (negation a) r
-IsAnswer (lists ds) r = IsReply (fits (answers (λ d. d ≡ list ds))) r
+IsAnswer (lists ds) r = IsReplyOf (answers (λ d. d ≡ list ds)) r
 IsAnswer (spans a b) r = IsReply (span_of a b) r
 IsAnswer (indexes a i) r = r ≡ item_of (as_list a) (as_integer i)

@@ -6,13 +6,13 @@ use Rattle.sg_defs.specs.Membership.{IsNumericalSemigroup}
 use Rattle.sg_apery.specs.Limits.{SPAN_LIMIT}
 use Rattle.sg_laws_invariants.proofs.SpansExist.{wide-decided}
 use Rattle.sg_value.specs.Data.{int, semigroup, items_of}
-use Rattle.sg_rows.specs.Order.{Plain, fits}
+use Rattle.sg_rows.specs.Order.{Plain}
 use Rattle.sg_rows.specs.Values.{integer_list, natural_list, semigroup_list, integers_with, naturals_with, semigroups_with}
 use Rattle.sg_lawful.specs.Spans.{IsWide}
 use Rattle.sg_rows.specs.Limits.{spanned}
 use Rattle.sg_lawful.specs.Lawful.{IsLawfulList}
 use Rattle.sg_rows.specs.Lawful.{AreLawful}
-use Rattle.sg_rows.proofs.SomeValue.{SomeValue, HasLawful}
+use Rattle.sg_rows.proofs.SomeValue.{HasValue, HasLawful}
 
 integer_list_lawful : (zs : List ℤ) → AreLawful (items_of (map int zs))
 integer_list_lawful [] = tt
@@ -44,5 +44,5 @@ no : ⊥ → ⊥
 no h = h
 
 -- a row that refuses nothing but a span past the limit
-pub spanned_some : (G : List ℕ) (P : Plain → Type 0) → IsNumericalSemigroup G → (¬ IsWide G → HasLawful P) → SomeValue (fits (spanned G P))
+pub spanned_some : (G : List ℕ) (P : Plain → Type 0) → IsNumericalSemigroup G → (¬ IsWide G → HasLawful P) → HasValue (spanned G P)
 spanned_some G P s h = (inr no, λ a. (inr no, λ b. (wide-decided G s SPAN_LIMIT, λ c. (inr no, λ d. (inr no, λ e. h c)))))

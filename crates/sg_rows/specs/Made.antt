@@ -2,7 +2,7 @@
 use Rattle.std.specs.Prelude.{◌<◌, ◌^◌, pos, All, EachIndex, slice_index, Result, Ok, Err, ⊤}
 use Rattle.sg_lawful.specs.Lawful.{IsLawfulList, IsLawfulIdeal}
 use Rattle.sg_value.specs.Data.{int, truth, semigroup, ideal}
-use Rattle.sg_rows.specs.Order.{Plain, Row, fits, IsReply, Passes}
+use Rattle.sg_rows.specs.Order.{Plain, Row, IsReplyOf, Passes}
 use Rattle.sg_rows.specs.Values.{integer_list, natural_list, semigroup_list}
 use Rattle.sg_rows.specs.declared.fault.CallFault.{CallFault}
 use Rattle.sg_rows.specs.declared.fault.CallFault.TheVariants.{Script, Memory}
@@ -37,5 +37,5 @@ pub record Gives (row : Row) (d : Plain) : Type 0 where
 -- a function told the row's value, or its first refusal
 abbrev pub Tells : Result Made CallFault → Row → Type 0
 Tells (Ok m) row = Gives row (datum m) × IsSound m
-Tells (Err (Script e)) row = IsReply (fits row) (Err e)
+Tells (Err (Script e)) row = IsReplyOf row (Err e)
 Tells (Err (Memory e)) row = ⊤

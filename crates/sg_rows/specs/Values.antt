@@ -7,7 +7,7 @@ use Rattle.sg_rows.specs.Order.{Plain, Row}
 
 -- a row that refuses nothing by itself
 abbrev pub answers : (Plain → Type 0) → Row
-answers value = record { size = ⊥; bad = ⊥; limit = ⊥; many = ⊥; budget = ⊥; value = value }
+answers value = record { size = ⊥; bad = ⊥; limit = ⊥; many = ⊥; budget = ⊥; late = []; value = value }
 
 -- ---- single values
 

@@ -93,7 +93,7 @@ decomposition_one : (p : Decomposition) (G : List ℕ) → One (decomposition_ro
 decomposition_one IntoIrreducibles G = semigroups_one (IsDecomposition G) (one-decomposition G)
 
 pub shape_one : (s : Shape) (args : Items Things) → OneValue (case_of s args)
-shape_one (shape.TestOfGenerators t) = of_semigroup_one (generators_row t) (generators_one t)
-shape_one (shape.TestOfTable t) = of_semigroup_one (table_row t) (table_one t)
-shape_one (shape.Closure c) = of_semigroup_one (closure_row c) (closure_one c)
-shape_one (shape.Decomposition p) = of_semigroup_one (decomposition_row p) (decomposition_one p)
+shape_one (shape.TestOfGenerators t) = of_semigroup_one _ (generators_row t) (generators_one t)
+shape_one (shape.TestOfTable t) = of_semigroup_one _ (table_row t) (table_one t)
+shape_one (shape.Closure c) = of_semigroup_one _ (closure_row c) (closure_one c)
+shape_one (shape.Decomposition p) = of_semigroup_one _ (decomposition_row p) (decomposition_one p)

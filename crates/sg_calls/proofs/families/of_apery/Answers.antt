@@ -1,6 +1,7 @@
-use Rattle.std.proofs.Common.{◌≡◌, Some, None, subst}
+use Rattle.std.proofs.Common.{◌≡◌, Some, None, subst, [], ◌∷◌}
 use Rattle.sg_value.specs.Known.{named}
 use Rattle.sg_value.specs.Plain.{plain_of_all}
+use Rattle.sg_rows.specs.Asks.{apery_table}
 use Rattle.sg_rows.specs.Forms.{of_semigroup_and_integer}
 use Rattle.sg_rows.specs.Kinds.{as_semigroup, one}
 use Rattle.sg_rows.specs.Replies.{Replies}
@@ -17,5 +18,5 @@ returns-in-None-clause-reply c =
     let r = c.of_table_and_integer.result in
     let store = c.of_table_and_integer.new.store in
     let none = found_none (sole ≡ None) (λ t. sole ≡ Some t.value) c.in_ok-table.field-0 c.in_ok-table.ensures.table c.in-None.is in
-    let reply = subst (λ s. Replies r store (of_semigroup_and_integer (plain_of_all (named s) args) apery_modulo_row)) c.one_table.ensures.unchanged c.of_table_and_integer.ensures.reply in
-    other_fitted sole (table_row table.AperyList) store r (of_semigroup_and_integer all apery_modulo_row) none reply
+    let reply = subst (λ s. Replies r store (of_semigroup_and_integer (apery_table ∷ []) (plain_of_all (named s) args) apery_modulo_row)) c.one_table.ensures.unchanged c.of_table_and_integer.ensures.reply in
+    other_fitted sole _ (table_row table.AperyList) store r (of_semigroup_and_integer (apery_table ∷ []) all apery_modulo_row) none reply

@@ -10,7 +10,7 @@ use Rattle.sg_calls.proofs.families.of_pair.Goals as goal
 pub returns-then-args-ne2-clause-reply : goal.returns-then-args-ne2-clause-reply
 returns-then-args-ne2-clause-reply c =
     let names = named c.args.store.now in
-    unfitted (two two_ideals (plain_of_all names c.args.args.now)) (λ p. pair_row c.args.pair p.0 p.1) c.args.store.now (two_plain-none names two_ideals c.args.args.now c.if-args-ne2.true)
+    unfitted (two two_ideals (plain_of_all names c.args.args.now)) _ (λ p. pair_row c.args.pair p.0 p.1) c.args.store.now (two_plain-none names two_ideals c.args.args.now c.if-args-ne2.true)
 
 pub returns-clause-reply : goal.returns-clause-reply
 returns-clause-reply c =
@@ -24,7 +24,7 @@ returns-clause-reply c =
     let both = two_ideals (plain names a) (plain names b) in
     let seen = found_some (both ≡ None) (λ p. (both ≡ Some (p.0.1, p.1.1)) × (p.0.1.ambient ≡ p.0.0.value)) c.in_ok-table.field-0 c.in_ok-table.ensures.both _ c.in-Some.is in
     let found = sym (two_at names two_ideals args a b c.if-args-ne2.false c.index-args-0.is c.index-args-1.is) ∙ seen.0 in
-    fitted_told (two two_ideals (plain_of_all names args)) (λ p. row p.0 p.1) c.deliver.new.store (I, J) c.pair_of.result c.deliver.result found c.deliver.ensures.delivered
+    fitted_told (two two_ideals (plain_of_all names args)) _ (λ p. row p.0 p.1) c.deliver.new.store (I, J) c.pair_of.result c.deliver.result found c.deliver.ensures.delivered
     (pair_told row c.pair_of.result _ _ I J c.pair_of.ensures (search rules) (search rules))
 
 pub returns-clause-keeps : goal.returns-clause-keeps

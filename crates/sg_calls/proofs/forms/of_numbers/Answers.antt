@@ -21,5 +21,5 @@ returns-clause-reply g c =
     let found =
     found_some (sole ≡ None) (λ numbers. (G : List ℕ) × (sole ≡ Some G) × ListsIntegers (IsPseudoFrobenius G) numbers.value) c.in_ok-numbers.field-0 c.in_ok-numbers.ensures.numbers c.in-Some.numbers c.in-Some.is
     in
-    fitted_told sole (g.R.OfNumbers.says c.args.row) c.deliver.new.store found.0 c.tell.result c.deliver.result found.1 c.deliver.ensures.delivered
+    fitted_told sole _ (g.R.OfNumbers.says c.args.row) c.deliver.new.store found.0 c.tell.result c.deliver.result found.1 c.deliver.ensures.delivered
     (c.tell.ensures found.0 (subst (ListsIntegers (IsPseudoFrobenius found.0)) (sym c.deref.ensures) found.2))

@@ -1,4 +1,4 @@
-use Rattle.std.proofs.Common.{◌≡◌, ◌↔◌, ℕ, ℤ, Bool, IsTrue, List, Some, Ok, refl, sym, ◌∙◌, subst, rules}
+use Rattle.std.proofs.Common.{◌≡◌, ◌↔◌, ℕ, ℤ, Bool, IsTrue, List, Some, Ok, refl, sym, ◌∙◌, subst, rules, [], ◌∷◌}
 use Rattle.std.specs.Prelude.{FitsSigned}
 use Rattle.std.specs.Int.{w64}
 use Rattle.sg_defs.specs.Ideals.{IsIdealMember}
@@ -8,6 +8,7 @@ use Rattle.sg_value.specs.Known.{Known, named}
 use Rattle.sg_value.specs.Plain.{contents, plain, thing_at}
 use Rattle.sg_value.specs.declared.value.Value.{Value}
 use Rattle.sg_value.specs.declared.value.Value.TheVariants as value
+use Rattle.sg_rows.specs.Asks.{apery_table}
 use Rattle.sg_rows.specs.Forms.{on_integer_and_ideal}
 use Rattle.sg_rows.specs.Kinds.{integer_then_ideal}
 use Rattle.sg_rows.specs.Replies.{Replies}
@@ -20,12 +21,12 @@ use Rattle.sg_calls.proofs.membership.is_in_ideal.Goals as goal
 
 -- whether the integer is a member, over the lists of the ideal with this id
 member_replies : (store asked : Known) (v whole : Value) (x : ℤ) (id at : ℕ) (G : List ℕ) (I : List ℤ) (b : Bool) → integer_then_ideal (contents v) (contents whole) ≡ Some (x, id) → G ≡ (thing_at (named store) ideals at).ambient
-    → asked ≡ store → I ≡ (thing_at (named asked) ideals at).generators → at ≡ id → (IsTrue b ↔ IsIdealMember G I x) → Replies (Ok (value.Bool b)) store (on_integer_and_ideal (plain (named store) v) (plain (named store) whole) member_row)
+    → asked ≡ store → I ≡ (thing_at (named asked) ideals at).generators → at ≡ id → (IsTrue b ↔ IsIdealMember G I x) → Replies (Ok (value.Bool b)) store (on_integer_and_ideal (apery_table ∷ []) (plain (named store) v) (plain (named store) whole) member_row)
 member_replies store asked v whole x id at G I b is same kept also the h =
     let K = thing_at (named store) ideals at in
     let held = subst (λ s. I ≡ (thing_at (named s) ideals at).generators) kept also in
     let found = subst (λ i. integer_then_ideal (contents v) (contents whole) ≡ Some (x, i)) (sym the) is in
-    fitted_by (integer_then_ideal (plain (named store) v) (plain (named store) whole)) (λ p. member_row p.0 p.1) store (x, K) (Ok (value.Bool b)) (integer_and_ideal-some store v whole x at K found refl)
+    fitted_by (integer_then_ideal (plain (named store) v) (plain (named store) whole)) _ (λ p. member_row p.0 p.1) store (x, K) (Ok (value.Bool b)) (integer_and_ideal-some store v whole x at K found refl)
     (replies_truth store b (value.Bool b) (IsIn K x) refl (subst (λ H. IsTrue b ↔ IsIdealMember H K.generators x) same (subst (λ J. IsTrue b ↔ IsIdealMember G J x) held h)))
 
 pub returns-clause-reply : goal.returns-clause-reply

@@ -1,6 +1,7 @@
-use Rattle.std.proofs.Common.{◌≡◌, Some, None, sym, ◌∙◌, subst, rules}
+use Rattle.std.proofs.Common.{◌≡◌, Some, None, sym, ◌∙◌, subst, rules, [], ◌∷◌}
 use Rattle.sg_value.specs.Known.{named}
 use Rattle.sg_value.specs.Plain.{contents, plain, thing_at}
+use Rattle.sg_rows.specs.Asks.{apery_table}
 use Rattle.sg_rows.specs.Alternatives.{or_else}
 use Rattle.sg_rows.specs.Forms.{on_two_ideals}
 use Rattle.sg_rows.specs.Kinds.{two_ideals, two_integers}
@@ -20,8 +21,8 @@ returns-in-Some-2-clause-reply c =
     let b = plain names c.args.b.now in
     let none : two_integers a b ≡ None = two_integers-plain (thing_at names) (contents c.args.a.now) (contents c.args.b.now) ∙ sym c.in_default.ensures in
     let found = found_some (two_ideals a b ≡ None) (λ p. (two_ideals a b ≡ Some (p.0.1, p.1.1)) × (p.0.1.ambient ≡ p.0.0.value)) c.in_ok-table.field-0 c.in_ok-table.ensures.both _ c.in-Some-2.is in
-    other_given (two_integers a b) (λ p. calculation Plus p.0 p.1) c.deliver.new.store c.deliver.result (or_else (on_two_ideals a b (pair_row Sum)) (moved_or_generated a b)) none
-    (first_told (two_ideals a b) (λ p. pair_row Sum p.0 p.1) c.deliver.new.store _ c.pair_of.result c.deliver.result (moved_or_generated a b) found.0 c.deliver.ensures.delivered
+    other_given (two_integers a b) (λ p. calculation Plus p.0 p.1) c.deliver.new.store c.deliver.result (or_else (on_two_ideals (apery_table ∷ []) a b (pair_row Sum)) (moved_or_generated a b)) none
+    (first_told (two_ideals a b) _ (λ p. pair_row Sum p.0 p.1) c.deliver.new.store _ c.pair_of.result c.deliver.result (moved_or_generated a b) found.0 c.deliver.ensures.delivered
     (pair_told (pair_row Sum) c.pair_of.result _ _ c.in-Some-2.one c.in-Some-2.other c.pair_of.ensures (search rules) (search rules)))
 
 pub returns-in-Some-2-clause-keeps : goal.returns-in-Some-2-clause-keeps
@@ -37,5 +38,5 @@ returns-clause-reply c =
     let none : two_integers a b ≡ None = two_integers-plain (thing_at names) (contents c.args.a.now) (contents c.args.b.now) ∙ sym c.in_default.ensures in
     let no_ideals = found_none (two_ideals a b ≡ None) (λ p. (two_ideals a b ≡ Some (p.0.1, p.1.1)) × (p.0.1.ambient ≡ p.0.0.value)) c.in_ok-table.field-0 c.in_ok-table.ensures.both c.in-None.is in
     let reply = subst (λ s. Replies r store (moved_or_generated (plain (named s) c.args.a.now) (plain (named s) c.args.b.now))) c.two_ideals.ensures.unchanged c.on_ideal_or_list.ensures.reply in
-    other_given (two_integers a b) (λ p. calculation Plus p.0 p.1) store r (or_else (on_two_ideals a b (pair_row Sum)) (moved_or_generated a b)) none
-    (other_fitted (two_ideals a b) (λ p. pair_row Sum p.0 p.1) store r (moved_or_generated a b) no_ideals reply)
+    other_given (two_integers a b) (λ p. calculation Plus p.0 p.1) store r (or_else (on_two_ideals (apery_table ∷ []) a b (pair_row Sum)) (moved_or_generated a b)) none
+    (other_fitted (two_ideals a b) _ (λ p. pair_row Sum p.0 p.1) store r (moved_or_generated a b) no_ideals reply)
