@@ -5,3 +5,4 @@ pub mod Naming
 pub mod MadeValues
 pub mod OneReply
 pub mod SomeReply
+pub mod AfterLemmas

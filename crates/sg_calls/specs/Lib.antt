@@ -6,3 +6,4 @@ pub mod Rows
 pub mod Operations
 pub mod Answers
 pub mod Laws
+pub mod After

@@ -1,5 +1,5 @@
 -- The rows of the operators.
-use Rattle.std.specs.Prelude.{◌≡◌, ℤ, pos, ◌+ℤ◌, ◌-ℤ◌, ◌*ℤ◌, ◌≤ℤ◌, ◌<ℤ◌, [], ◌∷◌}
+use Rattle.std.specs.Prelude.{◌≡◌, ℕ, ℤ, pos, ◌+ℤ◌, ◌-ℤ◌, ◌*ℤ◌, ◌≤ℤ◌, ◌<ℤ◌, [], ◌∷◌}
 use Rattle.sg_defs.specs.Membership.{IsIntegerMember}
 use Rattle.sg_value.specs.Data.{int}
 use Rattle.sg_rows.specs.Asks.{apery_table, nothing}
@@ -40,19 +40,19 @@ membership a b =
 abbrev pub moved_or_generated : Plain → Plain → Case
 moved_or_generated a b = or_else (on_integer_and_ideal (apery_table ∷ []) a b translate_row) (on_list_and_semigroup (apery_table ∷ []) a b generated_row)
 
--- what the row of an operator says of its operands
-abbrev pub operation : Operator → Plain → Plain → Case
-operation Eq a b = fits [] (answers (whether (a ≡ b)))
-operation Ne a b = fits [] (answers (whether (a ≡ b → ⊥)))
-operation Member a b = membership a b
-operation Plus a b = or_else (of_integers Plus a b) (or_else (on_two_ideals (apery_table ∷ []) a b (pair_row Sum)) (moved_or_generated a b))
-operation Less a b = or_else (of_integers Less a b) (on_two_ideals (apery_table ∷ []) a b (pair_row Difference))
-operation Times a b = or_else (of_integers Times a b) (on_integer_and_ideal (apery_table ∷ []) a b multiple_row)
-operation Mod a b = of_integers Mod a b
-operation Lt a b = of_integers Lt a b
-operation Le a b = of_integers Le a b
-operation Gt a b = of_integers Gt a b
-operation Ge a b = of_integers Ge a b
+-- what the row of an operator says of its operands, within a budget of steps that none counts yet
+abbrev pub operation : ℕ → Operator → Plain → Plain → Case
+operation budget Eq a b = fits [] (answers (whether (a ≡ b)))
+operation budget Ne a b = fits [] (answers (whether (a ≡ b → ⊥)))
+operation budget Member a b = membership a b
+operation budget Plus a b = or_else (of_integers Plus a b) (or_else (on_two_ideals (apery_table ∷ []) a b (pair_row Sum)) (moved_or_generated a b))
+operation budget Less a b = or_else (of_integers Less a b) (on_two_ideals (apery_table ∷ []) a b (pair_row Difference))
+operation budget Times a b = or_else (of_integers Times a b) (on_integer_and_ideal (apery_table ∷ []) a b multiple_row)
+operation budget Mod a b = of_integers Mod a b
+operation budget Lt a b = of_integers Lt a b
+operation budget Le a b = of_integers Le a b
+operation budget Gt a b = of_integers Gt a b
+operation budget Ge a b = of_integers Ge a b
 
 -- what the row of the minus sign says of its operand
 abbrev pub negation : Plain → Case

@@ -1,4 +1,5 @@
 -- Which row answers which command.
+use Rattle.std.specs.Prelude.{ℕ}
 use Rattle.sg_value.specs.Plain.{Things}
 use Rattle.sg_value.specs.Data.{Items}
 use Rattle.sg_rows.specs.Alternatives.{or_else}
@@ -18,12 +19,12 @@ use Rattle.sg_calls.specs.declared.command.Command.{Command}
 use Rattle.sg_calls.specs.declared.command.Command.TheVariants.{Lists, Makers, Facts, Shapes, Ideals, Shared}
 use Rattle.sg_calls.specs.declared.command.Shared.TheVariants.{Intersection, MinimalGenerators}
 
--- what the row of a command says of arguments: one that semigroups and ideals have in common, first of semigroups
-abbrev pub row : Command → Items Things → Case
-row (Lists c) args = lists.case_of c args
-row (Makers c) args = makers.case_of c args
-row (Facts c) args = facts.case_of c args
-row (Shapes c) args = shapes.case_of c args
-row (Ideals c) args = ideals.case_of c args
-row (Shared Intersection) args = or_else (makers.case_of maker.Intersection args) (ideals.case_of (OfTwoIdeals pair.Intersection) args)
-row (Shared MinimalGenerators) args = or_else (facts.case_of (fact.OfGenerators generators.MinimalGenerators) args) (ideals.case_of (OfIdeal Generators) args)
+-- what the row of a command says of arguments, within a budget of steps that no row counts yet: one that semigroups and ideals have in common, first of semigroups
+abbrev pub row : ℕ → Command → Items Things → Case
+row budget (Lists c) args = lists.case_of c args
+row budget (Makers c) args = makers.case_of c args
+row budget (Facts c) args = facts.case_of c args
+row budget (Shapes c) args = shapes.case_of c args
+row budget (Ideals c) args = ideals.case_of c args
+row budget (Shared Intersection) args = or_else (makers.case_of maker.Intersection args) (ideals.case_of (OfTwoIdeals pair.Intersection) args)
+row budget (Shared MinimalGenerators) args = or_else (facts.case_of (fact.OfGenerators generators.MinimalGenerators) args) (ideals.case_of (OfIdeal Generators) args)
