@@ -4,7 +4,7 @@ use Rattle.sg_value.specs.Plain.{AreDistinct, contents, thing_at}
 use Rattle.sg_value.specs.Data.{data_map}
 use Rattle.sg_value.proofs.OneStore.{data_map-same}
 use Rattle.sg_store.proofs.Interning.{known_distinct}
-use Rattle.sg_store.proofs.store.Store.equal.Goals as goal
+use Rattle.sg_store.proofs.ids.Ids.equal.Goals as goal
 
 pub returns : goal.returns
 returns c =

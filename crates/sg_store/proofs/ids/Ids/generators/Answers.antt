@@ -5,7 +5,7 @@ use Rattle.sg_value.specs.Plain.{AreDistinct}
 use Rattle.sg_value.specs.Known.{named}
 use Rattle.sg_store.specs.declared.key.Key.{Key}
 use Rattle.sg_store.proofs.Interning.{known_distinct}
-use Rattle.sg_store.proofs.store.Store.generators.Goals as goal
+use Rattle.sg_store.proofs.ids.Ids.generators.Goals as goal
 
 pub returns-clause-fit : goal.returns-clause-fit
 returns-clause-fit c =

@@ -2,7 +2,7 @@ use Rattle.std.proofs.Common.{◌≡◌, Some, slice_get, ap, sym, ◌∙◌, su
 use Rattle.sg_value.specs.Known.{Known}
 use Rattle.sg_store.specs.Keyed.{IsKeyOf}
 use Rattle.sg_store.proofs.Interning.{key_of}
-use Rattle.sg_store.proofs.store.Store.ideal_key.Goals as goal
+use Rattle.sg_store.proofs.ids.Ids.ideal_key.Goals as goal
 
 pub returns : goal.returns
 returns c =

@@ -7,7 +7,7 @@ use Rattle.sg_store.specs.Interned.{IsIdealInterned}
 use Rattle.sg_store.specs.Keyed.{ideal_over}
 use Rattle.sg_store.specs.declared.key.IdealKey.{IdealKey}
 use Rattle.sg_store.proofs.Interning.{ideals_fit_inserted, ideal_interned}
-use Rattle.sg_store.proofs.store.Store.intern_ideal.Goals as goal
+use Rattle.sg_store.proofs.ids.Ids.intern_ideal.Goals as goal
 
 pub invariant_of-self : goal.invariant_of-self
 invariant_of-self c =
@@ -17,8 +17,6 @@ invariant_of-self c =
       unique = c.self.invariant.unique;
       ideals_fit = subst (AllIdealsFit (lists_of c.self.inside.keys.keys)) same c.self.invariant.ideals_fit;
       ideals_unique = c.insert_full.ensures.unique;
-      tables = c.self.invariant.tables;
-      numbers = c.self.invariant.numbers;
     }
 
 pub invariant_of-self-2 : goal.invariant_of-self-2
@@ -34,8 +32,6 @@ invariant_of-self-2 c =
       unique = c.self.invariant.unique;
       ideals_fit = subst (AllIdealsFit (lists_of keys)) (sym c.in_ok-index.ensures.keys) (ideals_fit_inserted keys c.self.invariant.unique c.self.inside.ideals.keys c.self.invariant.ideals_fit k known);
       ideals_unique = c.insert_full.ensures.unique;
-      tables = c.self.invariant.tables;
-      numbers = c.self.invariant.numbers;
     }
 
 pub returns-clause-interned : goal.returns-clause-interned

@@ -1,10 +1,10 @@
-use Rattle.sg_store.proofs.store.Store.intern.Goals as goal
+use Rattle.sg_store.proofs.ids.Ids.intern.Goals as goal
 use Rattle.std.proofs.Common.{slice_get, ap, sym, ◌∙◌, subst}
 use Rattle.std.specs.List.{IsDistinct}
-use Rattle.sg_store.specs.Held.{lists_of, known_by, same_key, AreTables, AreNumbers, AllFit, AllIdealsFit}
+use Rattle.sg_store.specs.Held.{lists_of, known_by, same_key, AllFit, AllIdealsFit}
 use Rattle.sg_store.specs.Interned.{IsInterned}
 use Rattle.sg_store.specs.declared.key.Key.{Key}
-use Rattle.sg_store.proofs.Interning.{fit_inserted, lists_grow, ideals_fit-grows, tables_kept, numbers_kept, interned}
+use Rattle.sg_store.proofs.Interning.{fit_inserted, lists_grow, ideals_fit-grows, interned}
 
 pub invariant_of-self : goal.invariant_of-self
 invariant_of-self c =
@@ -14,8 +14,6 @@ invariant_of-self c =
       unique = c.insert_full.ensures.unique;
       ideals_fit = subst (λ l. AllIdealsFit (lists_of l) c.self.inside.ideals.keys) same c.self.invariant.ideals_fit;
       ideals_unique = c.self.invariant.ideals_unique;
-      tables = subst (λ l. AreTables (lists_of l) c.self.inside.tables) same c.self.invariant.tables;
-      numbers = subst (λ l. AreNumbers (lists_of l) c.self.inside.numbers) same c.self.invariant.numbers;
     }
 
 pub invariant_of-self-2 : goal.invariant_of-self-2
@@ -29,8 +27,6 @@ invariant_of-self-2 c =
       unique = c.insert_full.ensures.unique;
       ideals_fit = subst (λ l. AllIdealsFit (lists_of l) c.self.inside.ideals.keys) same (ideals_fit-grows (lists_of old) _ grows c.self.inside.ideals.keys c.self.invariant.ideals_fit);
       ideals_unique = c.self.invariant.ideals_unique;
-      tables = subst (λ l. AreTables (lists_of l) c.self.inside.tables) same (tables_kept (lists_of old) _ c.self.inside.tables grows c.self.invariant.tables);
-      numbers = subst (λ l. AreNumbers (lists_of l) c.self.inside.numbers) same (numbers_kept (lists_of old) _ c.self.inside.numbers grows c.self.invariant.numbers);
     }
 
 pub returns-clause-interned : goal.returns-clause-interned
