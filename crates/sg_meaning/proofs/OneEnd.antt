@@ -25,8 +25,8 @@ answer_one n (negates a) r s xs ys h k = (sign_one a r s h.0 k.0, h.1 ∙ sym k.
 answer_one n (lists ds) r s xs ys h k = (reply_one (fits [] (answers (λ d. d ≡ list ds))) (is_one (list ds)) r s h.0 k.0, h.1 ∙ sym k.1)
 answer_one n (spans a b) r s xs ys h k = (
   reply_one (span_of a b)
-  (given_one (as_integer a) (λ x. given (as_integer b) (λ y. fits [] (answers (λ d. d ≡ list (integers_from x (span_count (y -ℤ x)))))))
-  (λ x. given_one (as_integer b) (λ y. fits [] (answers (λ d. d ≡ list (integers_from x (span_count (y -ℤ x)))))) (λ y. is_one _))) r s h.0 k.0,
+      (given_one (as_integer a) (λ x. given (as_integer b) (λ y. fits [] (answers (λ d. d ≡ list (integers_from x (span_count (y -ℤ x)))))))
+      (λ x. given_one (as_integer b) (λ y. fits [] (answers (λ d. d ≡ list (integers_from x (span_count (y -ℤ x)))))) (λ y. is_one _))) r s h.0 k.0,
   h.1 ∙ sym k.1,
 )
 answer_one n (indexes a i) r s xs ys h k = (h.0 ∙ sym k.0, h.1 ∙ sym k.1)

@@ -54,11 +54,11 @@ answer_some n (combines op a b) h = operators_some n op a b h.0 h.1
 answer_some n (negates a) h = not_asked (IsReply (negation a)) (sign_some a)
 answer_some n (lists ds) h = not_asked (IsReplyOf (answers (λ d. d ≡ list ds))) (reply_some (fits [] (answers (λ d. d ≡ list ds))) (answers_some _ (is_some_value (list ds) h)))
 answer_some n (spans a b) h = not_asked (IsReply (span_of a b)) (
-  reply_some (span_of a b)
-  (given_some (λ x. ⊤) (as_integer a) (λ x. given (as_integer b) (λ y. fits [] (answers (λ d. d ≡ list (integers_from x (span_count (y -ℤ x))))))) (any_some (as_integer a))
-  (λ x l. given_some (λ y. ⊤) (as_integer b) (λ y. fits [] (answers (λ d. d ≡ list (integers_from x (span_count (y -ℤ x)))))) (any_some (as_integer b))
-  (λ y m. answers_some _ (is_some_value (list (integers_from x (span_count (y -ℤ x)))) (integers_lawful x (span_count (y -ℤ x)))))))
-)
+    reply_some (span_of a b)
+    (given_some (λ x. ⊤) (as_integer a) (λ x. given (as_integer b) (λ y. fits [] (answers (λ d. d ≡ list (integers_from x (span_count (y -ℤ x))))))) (any_some (as_integer a))
+    (λ x l. given_some (λ y. ⊤) (as_integer b) (λ y. fits [] (answers (λ d. d ≡ list (integers_from x (span_count (y -ℤ x)))))) (any_some (as_integer b))
+    (λ y m. answers_some _ (is_some_value (list (integers_from x (span_count (y -ℤ x)))) (integers_lawful x (span_count (y -ℤ x)))))))
+    )
 answer_some n (indexes a i) h = (item_of (as_list a) (as_integer i), ([], refl, refl), item_lawful (as_list a) (as_integer i) ((as_list-each IsLawfulThing) a h.0))
 
 -- ---- variables
