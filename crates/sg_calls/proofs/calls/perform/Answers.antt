@@ -50,5 +50,13 @@ returns-in-Ideals-clause-asks c =
     let r = c.on_ideals.result in
     subst (λ k. Asks r (row n k args) c.args.store.now.attributes c.on_ideals.new.store.attributes) (sym c.in-Ideals.is) (all_asked r c.on_ideals.new.store.ids (row n one args) _ _ (row_late n one args) c.on_ideals.ensures.reply c.on_ideals.ensures.asked)
 
+pub returns-in-Factorizations-clause-asks : goal.returns-in-Factorizations-clause-asks
+returns-in-Factorizations-clause-asks c =
+    let n = c.args.budget in
+    let args = plain_of_all (named c.args.store.now.ids) c.args.args.now in
+    let one = command.Factorizations c.in-Factorizations.command in
+    let r = c.on_factorizations.result in
+    subst (λ k. Asks r (row n k args) c.args.store.now.attributes c.on_factorizations.new.store.attributes) (sym c.in-Factorizations.is) (all_asked r c.on_factorizations.new.store.ids (row n one args) _ _ (row_late n one args) c.on_factorizations.ensures.reply c.on_factorizations.ensures.asked)
+
 pub returns-in-Shared-Intersection-clause-asks : goal.returns-in-Shared-Intersection-clause-asks
 returns-in-Shared-Intersection-clause-asks c = ?
