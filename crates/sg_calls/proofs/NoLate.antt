@@ -52,6 +52,12 @@ use Rattle.sg_rows_ideals.specs.declared.ideals.TableIdeal.TheVariants as table_
 use Rattle.sg_rows_ideals.specs.declared.ideals.BothIdeal.{BothIdeal}
 use Rattle.sg_rows_ideals.specs.declared.ideals.BothIdeal.TheVariants as both_ideal
 use Rattle.sg_rows_ideals.specs.declared.pairs.Pair.TheVariants as pair
+use Rattle.sg_rows_factorizations.specs.Commands as factorizations
+use Rattle.sg_rows_factorizations.specs.Elements.{element_row, semigroup_omega_row}
+use Rattle.sg_rows_factorizations.specs.declared.command.FactorizationCommand.{FactorizationCommand}
+use Rattle.sg_rows_factorizations.specs.declared.command.FactorizationCommand.TheVariants as factorization
+use Rattle.sg_rows_factorizations.specs.declared.element.ElementFact.{ElementFact}
+use Rattle.sg_rows_factorizations.specs.declared.element.ElementFact.TheVariants as element
 use Rattle.sg_calls.specs.Early.{early_of, late_of}
 use Rattle.sg_calls.specs.Operations.{operation, addition, subtraction, multiplication, membership, moved_or_generated, calculation, of_integers}
 use Rattle.sg_calls.specs.Rows.{row, shared_case}
@@ -179,6 +185,20 @@ ideals_late (ideal.OfBoth i) args = late_fitted (one as_semigroup args) _ (ideal
 ideals_late ideal.Generated args = late_fitted (two list_then_semigroup args) _ (λ p. generated_row p.0 p.1) (λ p. refl)
 ideals_late (ideal.OfTwoIdeals p) args = late_fitted (two two_ideals args) _ (λ q. pair_row p q.0 q.1) (λ q. refl)
 
+-- ---- factorizations
+
+element_late : (f : ElementFact) (G : List ℕ) (x : ℤ) → (element_row f G x).late ≡ []
+element_late element.CatenaryDegree G x = refl
+element_late element.DeltaSet G x = refl
+element_late element.Factorizations G x = refl
+element_late element.Lengths G x = refl
+element_late element.OmegaPrimality G x = refl
+
+factorizations_late : (c : FactorizationCommand) (args : Items Things) → late_of (factorizations.case_of c args) ≡ []
+factorizations_late (factorization.OfElement f) args = late_fitted (two semigroup_and_integer args) _ (λ p. element_row f p.0 p.1) (λ p. element_late f p.0 p.1)
+factorizations_late factorization.OmegaPrimality args =
+    late_or_else _ _ (late_fitted (one as_semigroup args) _ semigroup_omega_row (λ G. refl)) (late_fitted (two semigroup_and_integer args) _ (λ p. element_row element.OmegaPrimality p.0 p.1) (λ p. refl))
+
 -- ---- all commands, all operators
 
 shared_late : (s : Shared) (args : Items Things) → late_of (shared_case s args) ≡ []
@@ -192,6 +212,7 @@ row_late n (command.Makers c) args = makers_late c args
 row_late n (command.Facts c) args = facts_late c args
 row_late n (command.Shapes c) args = shapes_late c args
 row_late n (command.Ideals c) args = ideals_late c args
+row_late n (command.Factorizations c) args = factorizations_late c args
 row_late n (command.Shared s) args = shared_late s args
 
 -- operators on integers ask for nothing

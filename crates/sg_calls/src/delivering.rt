@@ -1,13 +1,15 @@
 //! What rows made, as values over a store: the one place where semigroups and ideals get their ids.
 
-ghost use Rattle.std.specs.Prelude.{◌≡◌, ◌<◌, ◌^◌, ℕ, List, IfOk, All, pos, map, EachIndex, slice_index};
+ghost use Rattle.std.specs.Prelude.{◌≡◌, ◌≤◌, ◌↔◌, ℕ, IfOk, IsTrue, All, pos, map};
 ghost use Rattle.sg_lawful.specs.Lawful.{IsLawfulList, IsLawfulIdeal};
 ghost use Rattle.sg_value.specs.Data.{int, list, semigroup, items_of};
 ghost use Rattle.sg_value.specs.Known.{Known, named};
 ghost use Rattle.sg_value.specs.Plain.{AllKnownIn, contents, contents_of_all, plain_of_all};
 ghost use Rattle.sg_store.specs.Interned.{Keeps};
-ghost use Rattle.sg_rows.specs.Made.{IsSound};
-ghost use Rattle.sg_calls.specs.Delivered.{IsDelivered, IsValueOf, entries_made};
+ghost use Rattle.sg_rows.specs.Made.{AreWithinBits, IsSound};
+ghost use Rattle.sg_rows.specs.Values.{natural_list, weight_of_vectors};
+ghost use Rattle.sg_value.specs.declared.limits.TheConstants.{WEIGHT_LIMIT};
+ghost use Rattle.sg_calls.specs.Delivered.{IsDelivered, IsValueOf, weight_made};
 
 use sg_nat::{Ints, Nats};
 use sg_rows::{CallFault, Fault, Made, is_heavy};
@@ -28,12 +30,32 @@ fn integer_values(alloc: Global, zs: &[i64]) -> Result<Vec<Value>, AllocError>
 
 /// Each natural as a value.
 fn natural_values(alloc: Global, ns: &[u64]) -> Result<Vec<Value>, AllocError>
-    requires { EachIndex ns.now (λ k. slice_index ns.now k < 2 ^ 63) }
+    requires { AreWithinBits ns.now }
     ensures { IfOk result (λ vs. contents_of_all vs.items ≡ items_of (map (λ n. int (pos n)) ns.now)) }
 {
     let mut values = Vec::with_capacity(alloc, ns.len())?;
     for n in ns {
         values.push(Value::Int(*n as i64))?;
+    }
+    Ok(values)
+}
+
+/// A list of naturals as a value.
+fn naturals_value(alloc: Global, ns: &[u64]) -> Result<Value, AllocError>
+    requires { AreWithinBits ns.now }
+    ensures { IfOk result (λ v. contents v ≡ natural_list ns.now) }
+{
+    list_value(alloc, natural_values(alloc, ns)?)
+}
+
+/// Each vector as a value.
+fn vector_values(alloc: Global, vectors: &[Nats]) -> Result<Vec<Value>, AllocError>
+    requires { All AreWithinBits vectors.now }
+    ensures { IfOk result (λ vs. contents_of_all vs.items ≡ items_of (map natural_list vectors.now)) }
+{
+    let mut values = Vec::with_capacity(alloc, vectors.len())?;
+    for vector in vectors {
+        values.push(naturals_value(alloc, vector.as_slice())?)?;
     }
     Ok(values)
 }
@@ -94,6 +116,7 @@ fn value_of(alloc: Global, ids: &mut Ids, made: Made) -> Result<Value, AllocErro
         Made::Truth(holds) => Ok(Value::Bool(holds)),
         Made::Integers(zs) => list_value(alloc, integer_values(alloc, zs.as_slice())?),
         Made::Naturals(ns) => list_value(alloc, natural_values(alloc, ns.as_slice())?),
+        Made::Vectors(vectors) => list_value(alloc, vector_values(alloc, vectors.as_slice())?),
         Made::Semigroup(generators) => semigroup_value(ids, generators),
         Made::Semigroups(lists) => {
             list_value(alloc, semigroup_values(alloc, ids, lists.as_slice())?)
@@ -102,15 +125,30 @@ fn value_of(alloc: Global, ids: &mut Ids, made: Made) -> Result<Value, AllocErro
     }
 }
 
-/// The number of entries, where a list was made.
-fn entry_count(made: &Made) -> usize
-    ensures { result ≡ entries_made made.now }
+/// Whether vectors are too heavy for a list of lists: each weighs 1 more than it has places.
+fn are_heavy(vectors: &[Nats]) -> bool
+    ensures { IsTrue result ↔ (WEIGHT_LIMIT ≤ weight_of_vectors vectors.now) }
+{
+    let mut weight = 0u64;
+    for vector in vectors {
+        weight += vector.as_slice().len() as u64 + 1;
+        if is_heavy(weight) {
+            return true;
+        }
+    }
+    false
+}
+
+/// Whether a list that was made is too heavy for a value.
+fn is_too_heavy(made: &Made) -> bool
+    ensures { IsTrue result ↔ (WEIGHT_LIMIT ≤ weight_made made.now) }
 {
     match made {
-        Made::Integers(zs) => zs.as_slice().len(),
-        Made::Naturals(ns) => ns.as_slice().len(),
-        Made::Semigroups(lists) => lists.as_slice().len(),
-        _ => 0,
+        Made::Integers(zs) => is_heavy(zs.as_slice().len() as u64),
+        Made::Naturals(ns) => is_heavy(ns.as_slice().len() as u64),
+        Made::Vectors(vectors) => are_heavy(vectors.as_slice()),
+        Made::Semigroups(lists) => is_heavy(lists.as_slice().len() as u64),
+        _ => false,
     }
 }
 
@@ -126,7 +164,7 @@ pub fn deliver(
     ensures keeps { Keeps ids.old ids.new }
 {
     match told {
-        Ok(made) if is_heavy(entry_count(&made) as u64) => Err(CallFault::Script(Fault::TooLarge)),
+        Ok(made) if is_too_heavy(&made) => Err(CallFault::Script(Fault::TooLarge)),
         Ok(made) => Ok(value_of(alloc, ids, made)?),
         Err(fault) => Err(fault),
     }

@@ -16,6 +16,7 @@ ghost use Rattle.sg_rows_constructors.specs.Rows.{modular_row, proportional_row,
 ghost use Rattle.sg_rows_invariants.specs.Facts as facts;
 ghost use Rattle.sg_rows_symmetry.specs.Shapes as shapes;
 ghost use Rattle.sg_rows_ideals.specs.Ideals as ideals;
+ghost use Rattle.sg_rows_factorizations.specs.Commands as factorizations;
 ghost use Rattle.sg_rows_ideals.specs.Rows.{fact_row, generated_row, pair_row};
 
 use crate::asks::{
@@ -28,6 +29,7 @@ use crate::forms::{
 };
 use sg_rows::{CallFault, Fault, OfTable, one_list, three_integers, two_integers};
 use sg_rows_constructors::{Maker, intersection, modular, proportional, quotient_by};
+use sg_rows_factorizations::{ElementFact, FactorizationCommand, OmegaOfSemigroup};
 use sg_rows_ideals::{IdealCommand, IdealFact, Pair, fact_of, generated, pair_of};
 use sg_rows_invariants::{AperyModulo, Fact, TableFact};
 use sg_rows_lists::{ListCommand, concatenation_of, length_of};
@@ -267,5 +269,36 @@ pub fn on_ideals(
         IdealCommand::OfBoth(ideal) => of_table_and_numbers(alloc, store, ideal, args),
         IdealCommand::Generated => of_generated(alloc, store, args),
         IdealCommand::OfTwoIdeals(pair) => of_pair(alloc, store, pair, args),
+    }
+}
+
+/// The omega primality of a semigroup, or else of a member of one.
+fn of_omega(alloc: Global, store: &mut Store, args: &[Value]) -> Result<Value, CallFault>
+    requires { AllKnownIn (named store.old.ids) args.now }
+    ensures reply { Replies result store.new.ids (factorizations.case_of FactorizationCommand.OmegaPrimality (plain_of_all (named store.old.ids) args.now)) }
+    ensures keeps { Keeps store.old.ids store.new.ids }
+    ensures asked { Asked result (early_of (factorizations.case_of FactorizationCommand.OmegaPrimality (plain_of_all (named store.old.ids) args.now))) store.old.attributes store.new.attributes }
+{
+    match one_table(alloc, store, args)? {
+        Some(table) => deliver(alloc, &mut store.ids, OmegaOfSemigroup.tell(alloc, &table)),
+        None => of_table_and_integer(alloc, store, ElementFact::OmegaPrimality, args),
+    }
+}
+
+/// The commands on factorizations of elements.
+pub fn on_factorizations(
+    alloc: Global,
+    store: &mut Store,
+    command: FactorizationCommand,
+    args: &[Value],
+) -> Result<Value, CallFault>
+    requires { AllKnownIn (named store.old.ids) args.now }
+    ensures reply { Replies result store.new.ids (factorizations.case_of command (plain_of_all (named store.old.ids) args.now)) }
+    ensures keeps { Keeps store.old.ids store.new.ids }
+    ensures asked { Asked result (early_of (factorizations.case_of command (plain_of_all (named store.old.ids) args.now))) store.old.attributes store.new.attributes }
+{
+    match command {
+        FactorizationCommand::OfElement(fact) => of_table_and_integer(alloc, store, fact, args),
+        FactorizationCommand::OmegaPrimality => of_omega(alloc, store, args),
     }
 }

@@ -1,0 +1,22 @@
+use Rattle.std.proofs.Common.{◌≡◌, Some, None, subst, [], ◌∷◌}
+use Rattle.sg_value.specs.Known.{named}
+use Rattle.sg_value.specs.Plain.{plain_of_all}
+use Rattle.sg_rows.specs.Asks.{apery_table}
+use Rattle.sg_rows.specs.Forms.{of_semigroup_and_integer}
+use Rattle.sg_rows.specs.Kinds.{as_semigroup, one}
+use Rattle.sg_rows.specs.Replies.{Replies}
+use Rattle.sg_rows_factorizations.specs.Elements.{element_row, semigroup_omega_row}
+use Rattle.sg_rows_factorizations.specs.declared.element.ElementFact.TheVariants.{OmegaPrimality}
+use Rattle.sg_calls.proofs.Fitting.{found_none, other_fitted}
+use Rattle.sg_calls.proofs.families.of_omega.Goals as goal
+
+pub returns-in-None-clause-reply : goal.returns-in-None-clause-reply
+returns-in-None-clause-reply c =
+    let args = c.args.args.now in
+    let all = plain_of_all (named c.args.store.now.ids) args in
+    let sole = one as_semigroup all in
+    let r = c.of_table_and_integer.result in
+    let store = c.of_table_and_integer.new.store.ids in
+    let none = found_none (sole ≡ None) (λ t. sole ≡ Some t.value) c.in_ok-table.field-0 c.in_ok-table.ensures.table c.in-None.is in
+    let reply = subst (λ s. Replies r store (of_semigroup_and_integer (apery_table ∷ []) (plain_of_all (named s) args) (element_row OmegaPrimality))) c.one_table.ensures.ids c.of_table_and_integer.ensures.reply in
+    other_fitted sole _ semigroup_omega_row store r (of_semigroup_and_integer (apery_table ∷ []) all (element_row OmegaPrimality)) none reply
