@@ -184,7 +184,7 @@ fold_call-returns-in_ok-entries-in-Arrow t c =
 
 pub folded-apply-requires : goal.folded-apply-requires
 folded-apply-requires t c =
-    (search rules, known_at (named c.loop-entry.machine.store) c.args.entries.now c.loop-entry.entry-index c.entry-item.result c.loop-entry-test.true c.entry-item.is c.loop-entry.invariant.entries)
+    (search rules, known_at (named c.loop-entry.machine.store.ids) c.args.entries.now c.loop-entry.entry-index c.entry-item.result c.loop-entry-test.true c.entry-item.is c.loop-entry.invariant.entries)
 
 pub folded-loop-entry-init : goal.folded-loop-entry-init
 folded-loop-entry-init t c =
