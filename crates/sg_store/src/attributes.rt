@@ -2,12 +2,12 @@
 
 ghost use Rattle.std.specs.Prelude.{◌≡◌, IfOk, OnOk, OnErr};
 ghost use Rattle.sg_lawful.specs.Lawful.{IsLawfulList};
-ghost use Rattle.sg_memo.specs.Answering.{Answers};
 ghost use Rattle.sg_store.specs.Attributes.{IsTableOf, AreNumbersOf, nothing_asked, table_answered, numbers_answered, IsAfterNoTable, IsAfterNoNumbers, AreCounts};
 
+use crate::makers::{MakesPseudo, MakesTables};
 use crate::questions::{PseudoQ, TableQ};
 use sg_apery::Table;
-use sg_memo::{Kept, Makes, Memo};
+use sg_memo::{Kept, Memo};
 use sg_nat::{Ints, Nats};
 use std::alloc::{AllocError, Global};
 use std::marker::Model;
@@ -25,12 +25,12 @@ pub struct Counts {
 /// Tables and pseudo-Frobenius numbers by the minimal generators of their semigroups. Contracts see what each memo keeps
 /// and counts.
 #[derive(Drop)]
-pub struct Attributes<F1: Makes<Table>, F2: Makes<Ints>> {
-    tables: Memo<TableQ, F1>,
-    pseudo: Memo<PseudoQ, F2>,
+pub struct Attributes {
+    tables: Memo<TableQ, MakesTables>,
+    pseudo: Memo<PseudoQ, MakesPseudo>,
 }
 
-impl<F1: Makes<Table>, F2: Makes<Ints>> Model for Attributes<F1, F2> {
+impl Model for Attributes {
     ghost use Rattle.std.specs.Prelude.{⊤};
     ghost use Rattle.sg_store.specs.Attributes.{Attributes};
 
@@ -41,21 +41,14 @@ impl<F1: Makes<Table>, F2: Makes<Ints>> Model for Attributes<F1, F2> {
     ghost invariant = { λ _. ⊤ };
 }
 
-impl<F1: Makes<Table>, F2: Makes<Ints>> Attributes<F1, F2> {
-    /// Room for so many of each attribute, which these functions make. Nothing was asked for.
-    pub fn new(
-        alloc: Global,
-        tables: F1,
-        pseudo: F2,
-        capacity: usize,
-    ) -> Result<Attributes<F1, F2>, AllocError>
-        requires tables { Answers IsLawfulList IsTableOf (F1.takes tables) (F1.gives tables) }
-        requires pseudo { Answers IsLawfulList AreNumbersOf (F2.takes pseudo) (F2.gives pseudo) }
+impl Attributes {
+    /// Room for so many of each attribute. Nothing was asked for.
+    pub fn new(alloc: Global, capacity: usize) -> Result<Attributes, AllocError>
         ensures { IfOk result (λ a. a ≡ nothing_asked capacity) }
     {
         Ok(Attributes {
-            tables: Memo::new(alloc, Kept::new(tables), capacity)?,
-            pseudo: Memo::new(alloc, Kept::new(pseudo), capacity)?,
+            tables: Memo::new(alloc, Kept::new(MakesTables), capacity)?,
+            pseudo: Memo::new(alloc, Kept::new(MakesPseudo), capacity)?,
         })
     }
 

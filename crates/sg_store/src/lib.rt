@@ -18,7 +18,6 @@ mod store;
 
 pub use attributes::{Attributes, Counts};
 pub use ids::Ids;
-pub use makers::{pseudo_frobenius_of, table_of};
 pub use store::Store;
 
 #[cfg(test)]

@@ -1,15 +1,12 @@
 //! The store.
 
 ghost use Rattle.std.specs.Prelude.{◌≡◌, [], slice_get, Some, IsSome, IfOk, OnOk, OnErr};
-ghost use Rattle.sg_lawful.specs.Lawful.{IsLawfulList};
-ghost use Rattle.sg_memo.specs.Answering.{Answers};
-ghost use Rattle.sg_store.specs.Attributes.{IsTableOf, AreNumbersOf, nothing_asked, table_answered, numbers_answered, IsAfterNoTable, IsAfterNoNumbers};
+ghost use Rattle.sg_store.specs.Attributes.{AreNumbersOf, nothing_asked, table_answered, numbers_answered, IsAfterNoTable, IsAfterNoNumbers};
 ghost use Rattle.sg_store.specs.Held.{list_at};
 
 use crate::attributes::Attributes;
 use crate::ids::Ids;
 use sg_apery::Table;
-use sg_memo::Makes;
 use sg_nat::Ints;
 use sg_value::SemId;
 use std::alloc::{AllocError, Global};
@@ -17,30 +14,23 @@ use std::rc::Rc;
 
 /// The semigroups and ideals that are known, and the attributes of the semigroups as far as they are kept.
 #[derive(Drop)]
-pub struct Store<F1: Makes<Table>, F2: Makes<Ints>> {
+pub struct Store {
     /// What ids stand for.
     pub ids: Ids,
     /// What is kept of semigroups that are known.
-    pub attributes: Attributes<F1, F2>,
+    pub attributes: Attributes,
 }
 
-impl<F1: Makes<Table>, F2: Makes<Ints>> Store<F1, F2> {
-    /// The store that knows nothing, with room for so many of each attribute, which these functions make.
-    pub fn new(
-        alloc: Global,
-        tables: F1,
-        pseudo: F2,
-        capacity: usize,
-    ) -> Result<Store<F1, F2>, AllocError>
-        requires tables { Answers IsLawfulList IsTableOf (F1.takes tables) (F1.gives tables) }
-        requires pseudo { Answers IsLawfulList AreNumbersOf (F2.takes pseudo) (F2.gives pseudo) }
+impl Store {
+    /// The store that knows nothing, with room for so many of each attribute.
+    pub fn new(alloc: Global, capacity: usize) -> Result<Store, AllocError>
         ensures semigroups { IfOk result (λ store. store.ids.semigroups ≡ []) }
         ensures ideals { IfOk result (λ store. store.ids.ideals ≡ []) }
         ensures attributes { IfOk result (λ store. store.attributes ≡ nothing_asked capacity) }
     {
         Ok(Store {
             ids: Ids::new(alloc),
-            attributes: Attributes::new(alloc, tables, pseudo, capacity)?,
+            attributes: Attributes::new(alloc, capacity)?,
         })
     }
 
