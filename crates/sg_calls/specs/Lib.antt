@@ -7,3 +7,4 @@ pub mod Operations
 pub mod Answers
 pub mod Laws
 pub mod After
+pub mod Early

@@ -11,7 +11,7 @@ ghost use Rattle.sg_calls.specs.Delivered.{IsDelivered, IsValueOf, entries_made}
 
 use sg_nat::{Ints, Nats};
 use sg_rows::{CallFault, Fault, Made, is_heavy};
-use sg_store::Store;
+use sg_store::Ids;
 use sg_value::{Items, Value};
 use std::alloc::{AllocError, Global};
 
@@ -41,17 +41,17 @@ fn natural_values(alloc: Global, ns: &[u64]) -> Result<Vec<Value>, AllocError>
 /// Each semigroup as a value, by its old id where it is known.
 fn semigroup_values(
     alloc: Global,
-    store: &mut Store,
+    ids: &mut Ids,
     lists: &[Nats],
 ) -> Result<Vec<Value>, AllocError>
     requires { All IsLawfulList lists.now }
-    ensures plain { IfOk result (λ vs. plain_of_all (named store.new) vs.items ≡ items_of (map semigroup lists.now)) }
-    ensures known { IfOk result (λ vs. AllKnownIn (named store.new) vs.items) }
-    ensures keeps { Keeps store.old store.new }
+    ensures plain { IfOk result (λ vs. plain_of_all (named ids.new) vs.items ≡ items_of (map semigroup lists.now)) }
+    ensures known { IfOk result (λ vs. AllKnownIn (named ids.new) vs.items) }
+    ensures keeps { Keeps ids.old ids.new }
 {
     let mut values = Vec::with_capacity(alloc, lists.len())?;
     for list in lists {
-        values.push(Value::Sem(store.intern(list.try_clone()?)?))?;
+        values.push(Value::Sem(ids.intern(list.try_clone()?)?))?;
     }
     Ok(values)
 }
@@ -64,29 +64,29 @@ fn list_value(alloc: Global, values: Vec<Value>) -> Result<Value, AllocError>
 }
 
 /// A semigroup as a value, by its old id where it is known.
-fn semigroup_value(store: &mut Store, generators: Nats) -> Result<Value, AllocError>
+fn semigroup_value(ids: &mut Ids, generators: Nats) -> Result<Value, AllocError>
     requires { IsLawfulList generators }
-    ensures value { IfOk result (IsValueOf store.new (Made.Semigroup generators)) }
-    ensures keeps { Keeps store.old store.new }
+    ensures value { IfOk result (IsValueOf ids.new (Made.Semigroup generators)) }
+    ensures keeps { Keeps ids.old ids.new }
 {
-    Ok(Value::Sem(store.intern(generators)?))
+    Ok(Value::Sem(ids.intern(generators)?))
 }
 
 /// An ideal as a value, by its old id where it is known.
-fn ideal_value(store: &mut Store, ambient: Nats, generators: Ints) -> Result<Value, AllocError>
+fn ideal_value(ids: &mut Ids, ambient: Nats, generators: Ints) -> Result<Value, AllocError>
     requires { IsLawfulIdeal ambient generators }
-    ensures value { IfOk result (IsValueOf store.new (Made.Ideal ambient generators)) }
-    ensures keeps { Keeps store.old store.new }
+    ensures value { IfOk result (IsValueOf ids.new (Made.Ideal ambient generators)) }
+    ensures keeps { Keeps ids.old ids.new }
 {
-    let ambient = store.intern(ambient)?;
-    Ok(Value::Ideal(store.intern_ideal(ambient, generators)?))
+    let ambient = ids.intern(ambient)?;
+    Ok(Value::Ideal(ids.intern_ideal(ambient, generators)?))
 }
 
 /// What a row made as a value.
-fn value_of(alloc: Global, store: &mut Store, made: Made) -> Result<Value, AllocError>
+fn value_of(alloc: Global, ids: &mut Ids, made: Made) -> Result<Value, AllocError>
     requires { IsSound made }
-    ensures value { IfOk result (IsValueOf store.new made) }
-    ensures keeps { Keeps store.old store.new }
+    ensures value { IfOk result (IsValueOf ids.new made) }
+    ensures keeps { Keeps ids.old ids.new }
 {
     match made {
         Made::Integer(z) => Ok(Value::Int(z)),
@@ -94,11 +94,11 @@ fn value_of(alloc: Global, store: &mut Store, made: Made) -> Result<Value, Alloc
         Made::Truth(holds) => Ok(Value::Bool(holds)),
         Made::Integers(zs) => list_value(alloc, integer_values(alloc, zs.as_slice())?),
         Made::Naturals(ns) => list_value(alloc, natural_values(alloc, ns.as_slice())?),
-        Made::Semigroup(generators) => semigroup_value(store, generators),
+        Made::Semigroup(generators) => semigroup_value(ids, generators),
         Made::Semigroups(lists) => {
-            list_value(alloc, semigroup_values(alloc, store, lists.as_slice())?)
+            list_value(alloc, semigroup_values(alloc, ids, lists.as_slice())?)
         }
-        Made::Ideal(ambient, generators) => ideal_value(store, ambient, generators),
+        Made::Ideal(ambient, generators) => ideal_value(ids, ambient, generators),
     }
 }
 
@@ -118,16 +118,16 @@ fn entry_count(made: &Made) -> usize
 /// refused before it is built.
 pub fn deliver(
     alloc: Global,
-    store: &mut Store,
+    ids: &mut Ids,
     told: Result<Made, CallFault>,
 ) -> Result<Value, CallFault>
     requires { IfOk told IsSound }
-    ensures delivered { IsDelivered told store.new result }
-    ensures keeps { Keeps store.old store.new }
+    ensures delivered { IsDelivered told ids.new result }
+    ensures keeps { Keeps ids.old ids.new }
 {
     match told {
         Ok(made) if is_heavy(entry_count(&made) as u64) => Err(CallFault::Script(Fault::TooLarge)),
-        Ok(made) => Ok(value_of(alloc, store, made)?),
+        Ok(made) => Ok(value_of(alloc, ids, made)?),
         Err(fault) => Err(fault),
     }
 }

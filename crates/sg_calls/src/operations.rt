@@ -8,7 +8,9 @@ ghost use Rattle.sg_value.specs.Plain.{AllKnown, plain};
 ghost use Rattle.sg_store.specs.Interned.{Keeps};
 ghost use Rattle.sg_rows.specs.Values.{answers};
 ghost use Rattle.sg_rows.specs.Replies.{Replies, RepliesOf};
-ghost use Rattle.sg_calls.specs.Operations.{calculation, of_integers, operation, moved_or_generated, negation};
+ghost use Rattle.sg_calls.specs.After.{Asked, Asks};
+ghost use Rattle.sg_calls.specs.Early.{early_of};
+ghost use Rattle.sg_calls.specs.Operations.{calculation, of_integers, operation, addition, subtraction, multiplication, moved_or_generated, negation};
 ghost use Rattle.sg_calls.specs.Remainders.{IsRemainder};
 
 use crate::asks::{integer_then_ideal, list_then_table, two_ideals};
@@ -82,26 +84,28 @@ fn on_ideal_or_list(
     a: &Value,
     b: &Value,
 ) -> Result<Value, CallFault>
-    requires right { AllKnown (named store.old) b.now }
-    ensures reply { Replies result store.new (moved_or_generated (plain (named store.old) a.now) (plain (named store.old) b.now)) }
-    ensures keeps { Keeps store.old store.new }
+    requires right { AllKnown (named store.old.ids) b.now }
+    ensures reply { Replies result store.new.ids (moved_or_generated (plain (named store.old.ids) a.now) (plain (named store.old.ids) b.now)) }
+    ensures keeps { Keeps store.old.ids store.new.ids }
+    ensures asked { Asked result (early_of (moved_or_generated (plain (named store.old.ids) a.now) (plain (named store.old.ids) b.now))) store.old.attributes store.new.attributes }
 {
     if let Some((by, (table, ideal))) = integer_then_ideal(alloc, store, a, b)? {
-        return deliver(alloc, store, translate_of(alloc, by, &table, &ideal));
+        return deliver(alloc, &mut store.ids, translate_of(alloc, by, &table, &ideal));
     }
     let Some((given, table)) = list_then_table(alloc, store, a, b)? else {
         return Err(CallFault::Script(Fault::WrongType));
     };
-    deliver(alloc, store, generated(alloc, given.as_slice(), &table))
+    deliver(alloc, &mut store.ids, generated(alloc, given.as_slice(), &table))
 }
 
 /// The operator `+`: of two integers, of two ideals, of an integer and an ideal, or of a list of integers and a
 /// semigroup.
 fn plus(alloc: Global, store: &mut Store, a: &Value, b: &Value) -> Result<Value, CallFault>
-    requires left { AllKnown (named store.old) a.now }
-    requires right { AllKnown (named store.old) b.now }
-    ensures reply { Replies result store.new (operation Operator.Plus (plain (named store.old) a.now) (plain (named store.old) b.now)) }
-    ensures keeps { Keeps store.old store.new }
+    requires left { AllKnown (named store.old.ids) a.now }
+    requires right { AllKnown (named store.old.ids) b.now }
+    ensures reply { Replies result store.new.ids (addition (plain (named store.old.ids) a.now) (plain (named store.old.ids) b.now)) }
+    ensures keeps { Keeps store.old.ids store.new.ids }
+    ensures asked { Asked result (early_of (addition (plain (named store.old.ids) a.now) (plain (named store.old.ids) b.now))) store.old.attributes store.new.attributes }
 {
     if let Some((x, y)) = two_integers(a, b) {
         return calculate(Operator::Plus, x, y);
@@ -110,7 +114,7 @@ fn plus(alloc: Global, store: &mut Store, a: &Value, b: &Value) -> Result<Value,
         Some(((table, one), (_, other))) => {
             deliver(
                 alloc,
-                store,
+                &mut store.ids,
                 pair_of(alloc, Pair::Sum, &table, &one, &other),
             )
         }
@@ -120,10 +124,11 @@ fn plus(alloc: Global, store: &mut Store, a: &Value, b: &Value) -> Result<Value,
 
 /// The operator `-`: of two integers, or of two ideals.
 fn less(alloc: Global, store: &mut Store, a: &Value, b: &Value) -> Result<Value, CallFault>
-    requires left { AllKnown (named store.old) a.now }
-    requires right { AllKnown (named store.old) b.now }
-    ensures reply { Replies result store.new (operation Operator.Less (plain (named store.old) a.now) (plain (named store.old) b.now)) }
-    ensures keeps { Keeps store.old store.new }
+    requires left { AllKnown (named store.old.ids) a.now }
+    requires right { AllKnown (named store.old.ids) b.now }
+    ensures reply { Replies result store.new.ids (subtraction (plain (named store.old.ids) a.now) (plain (named store.old.ids) b.now)) }
+    ensures keeps { Keeps store.old.ids store.new.ids }
+    ensures asked { Asked result (early_of (subtraction (plain (named store.old.ids) a.now) (plain (named store.old.ids) b.now))) store.old.attributes store.new.attributes }
 {
     if let Some((x, y)) = two_integers(a, b) {
         return calculate(Operator::Less, x, y);
@@ -133,16 +138,17 @@ fn less(alloc: Global, store: &mut Store, a: &Value, b: &Value) -> Result<Value,
     };
     deliver(
         alloc,
-        store,
+        &mut store.ids,
         pair_of(alloc, Pair::Difference, &table, &one, &other),
     )
 }
 
 /// The operator `*`: of two integers, or of an integer and an ideal.
 fn times(alloc: Global, store: &mut Store, a: &Value, b: &Value) -> Result<Value, CallFault>
-    requires right { AllKnown (named store.old) b.now }
-    ensures reply { Replies result store.new (operation Operator.Times (plain (named store.old) a.now) (plain (named store.old) b.now)) }
-    ensures keeps { Keeps store.old store.new }
+    requires right { AllKnown (named store.old.ids) b.now }
+    ensures reply { Replies result store.new.ids (multiplication (plain (named store.old.ids) a.now) (plain (named store.old.ids) b.now)) }
+    ensures keeps { Keeps store.old.ids store.new.ids }
+    ensures asked { Asked result (early_of (multiplication (plain (named store.old.ids) a.now) (plain (named store.old.ids) b.now))) store.old.attributes store.new.attributes }
 {
     if let Some((x, y)) = two_integers(a, b) {
         return calculate(Operator::Times, x, y);
@@ -150,7 +156,7 @@ fn times(alloc: Global, store: &mut Store, a: &Value, b: &Value) -> Result<Value
     let Some((factor, (table, ideal))) = integer_then_ideal(alloc, store, a, b)? else {
         return Err(CallFault::Script(Fault::WrongType));
     };
-    deliver(alloc, store, multiple_of(alloc, factor, &table, &ideal))
+    deliver(alloc, &mut store.ids, multiple_of(alloc, factor, &table, &ideal))
 }
 
 /// The integer with the other sign.
@@ -163,22 +169,25 @@ pub fn negate(a: &Value) -> Result<Value, CallFault>
     integer(0i64.checked_sub(x))
 }
 
-/// What an operator gives of its operands.
+/// What an operator gives of its operands, within a budget of steps that none counts yet. What its row asks for is asked
+/// for in its order, also where the row refuses.
 pub fn combine(
     alloc: Global,
     store: &mut Store,
     op: Operator,
     a: &Value,
     b: &Value,
+    budget: u64,
 ) -> Result<Value, CallFault>
-    requires left { AllKnown (named store.old) a.now }
-    requires right { AllKnown (named store.old) b.now }
-    ensures reply { Replies result store.new (operation op (plain (named store.old) a.now) (plain (named store.old) b.now)) }
-    ensures keeps { Keeps store.old store.new }
+    requires left { AllKnown (named store.old.ids) a.now }
+    requires right { AllKnown (named store.old.ids) b.now }
+    ensures reply { Replies result store.new.ids (operation budget op (plain (named store.old.ids) a.now) (plain (named store.old.ids) b.now)) }
+    ensures keeps { Keeps store.old.ids store.new.ids }
+    ensures asks { Asks result (operation budget op (plain (named store.old.ids) a.now) (plain (named store.old.ids) b.now)) store.old.attributes store.new.attributes }
 {
     match op {
-        Operator::Eq => Ok(Value::Bool(store.equal(a, b))),
-        Operator::Ne => Ok(Value::Bool(!store.equal(a, b))),
+        Operator::Eq => Ok(Value::Bool(store.ids.equal(a, b))),
+        Operator::Ne => Ok(Value::Bool(!store.ids.equal(a, b))),
         Operator::Member => member(alloc, store, a, b),
         Operator::Plus => plus(alloc, store, a, b),
         Operator::Less => less(alloc, store, a, b),
