@@ -11,7 +11,7 @@ use Rattle.sg_value.specs.Known.{Known, named}
 use Rattle.sg_value.specs.Plain.{Named, AllKnown, AllKnownIn, contents, plain, plain_of_all, Things}
 use Rattle.sg_value.specs.declared.value.Value.{Value}
 use Rattle.sg_store.specs.Interned.{Keeps}
-use Rattle.sg_rows.specs.Order.{Plain, Case, fits, AreAsked}
+use Rattle.sg_rows.specs.Order.{Plain, fits, AreAsked}
 use Rattle.sg_rows.specs.Replies.{Replies}
 use Rattle.sg_rows.specs.declared.fault.CallFault.{CallFault}
 use Rattle.sg_rows.specs.declared.fault.CallFault.TheVariants.{Script}
