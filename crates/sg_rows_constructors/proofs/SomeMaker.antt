@@ -17,6 +17,7 @@ use Rattle.sg_laws_invariants.proofs.SetsExist.{closed-or_not, closed-set, gener
 use Rattle.sg_lawful.specs.Lawful.{IsLawfulList}
 use Rattle.sg_value.specs.Data.{Items}
 use Rattle.sg_value.specs.Plain.{Things}
+use Rattle.sg_rows.specs.Asks.{apery_table}
 use Rattle.sg_rows.specs.Lawful.{AreLawful}
 use Rattle.sg_rows.proofs.FormLaws.{of_list_some, of_list_or_integers_some, of_two_integers_some, of_three_integers_some, of_two_semigroups_some, of_semigroup_then_integer_some}
 use Rattle.sg_rows.proofs.SomeValue.{SomeValue, generates_some, HasValue}
@@ -185,5 +186,5 @@ maker_some (OfList m) = of_list_some (integers_row m) (integers_some m)
 maker_some (OfListOrIntegers m) = λ args l. of_list_or_integers_some (integers_row m) (integers_some m) args
 maker_some Modular = of_two_integers_some modular_row modular_some
 maker_some ProportionallyModular = of_three_integers_some proportional_row proportional_some
-maker_some Intersection = of_two_semigroups_some _ intersection_row intersection_some
-maker_some Quotient = of_semigroup_then_integer_some _ quotient_row quotient_some
+maker_some Intersection = of_two_semigroups_some (apery_table ∷ []) intersection_row intersection_some
+maker_some Quotient = of_semigroup_then_integer_some (apery_table ∷ []) quotient_row quotient_some

@@ -1,12 +1,12 @@
 -- The rows on relative ideals have one value.
-use Rattle.std.proofs.Common.{ℕ, ℤ, List, ap, sym, ◌∙◌}
+use Rattle.std.proofs.Common.{ℕ, ℤ, List, [], ◌∷◌, ap, sym, ◌∙◌}
 use Rattle.std.specs.Prelude.{unsigned_abs}
 use Rattle.sg_defs.specs.Ideals.{IsIdealMember, IsInMultiple, IsInTranslate, IsInCanonical, IsInMaximal}
 use Rattle.sg_ideal.specs.Value.{IsIn}
 use Rattle.sg_laws_ideals.proofs.OneIdeal.{one-minimal_ideal}
 use Rattle.sg_value.specs.Data.{ideal, semigroup, Items}
 use Rattle.sg_value.specs.Plain.{Things, RelativeIdeal}
-use Rattle.sg_rows.specs.Asks.{Attribute}
+use Rattle.sg_rows.specs.Asks.{Attribute, apery_table, pseudo_frobenius}
 use Rattle.sg_rows.specs.Order.{Plain}
 use Rattle.sg_rows.specs.Forms.{on_two_ideals, on_integer_and_ideal, on_list_and_semigroup}
 use Rattle.sg_rows.specs.Values.{integer_list}
@@ -58,8 +58,8 @@ member_one letters = on_integer_and_ideal_one letters member_row (λ x I. whethe
 -- ---- commands
 
 pub ideal_one : (c : IdealCommand) (args : Items Things) → OneValue (case_of c args)
-ideal_one (OfIdeal f) args = of_ideal_one _ (fact_row f) (fact_one f) args
-ideal_one (OfTable i) args = of_semigroup_one _ (table_row i) (table_one i) args
-ideal_one (OfBoth i) args = of_semigroup_one _ (both_row i) (both_one i) args
-ideal_one Generated args = of_list_then_semigroup_one _ generated_row (λ zs G. an_ideal_one G (IsIdealMember G zs)) args
-ideal_one (OfTwoIdeals p) args = of_two_ideals_one _ (pair_row p) (λ I J. an_ideal_one I.ambient (InPair p (IsIn I) (IsIn J))) args
+ideal_one (OfIdeal f) args = of_ideal_one [] (fact_row f) (fact_one f) args
+ideal_one (OfTable i) args = of_semigroup_one (apery_table ∷ []) (table_row i) (table_one i) args
+ideal_one (OfBoth i) args = of_semigroup_one (apery_table ∷ pseudo_frobenius ∷ []) (both_row i) (both_one i) args
+ideal_one Generated args = of_list_then_semigroup_one (apery_table ∷ []) generated_row (λ zs G. an_ideal_one G (IsIdealMember G zs)) args
+ideal_one (OfTwoIdeals p) args = of_two_ideals_one (apery_table ∷ []) (pair_row p) (λ I J. an_ideal_one I.ambient (InPair p (IsIn I) (IsIn J))) args

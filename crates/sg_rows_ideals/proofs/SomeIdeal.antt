@@ -14,7 +14,7 @@ use Rattle.sg_laws_ideals.proofs.InstancesExist.{generated-exists, sum-exists, d
 use Rattle.sg_laws_ideals.proofs.SizeDecisions.{small-decided, small-or_large, large-decided}
 use Rattle.sg_value.specs.Data.{ideal, semigroup, Items}
 use Rattle.sg_value.specs.Plain.{Things, RelativeIdeal}
-use Rattle.sg_rows.specs.Asks.{Attribute}
+use Rattle.sg_rows.specs.Asks.{Attribute, apery_table, pseudo_frobenius}
 use Rattle.sg_rows.specs.Order.{Plain}
 use Rattle.sg_rows.specs.Forms.{on_two_ideals, on_integer_and_ideal, on_list_and_semigroup}
 use Rattle.sg_rows.specs.Lawful.{AreLawful, IsLawful}
@@ -131,8 +131,8 @@ member_some letters = on_integer_and_ideal_some letters member_row member_row_so
 -- ---- commands
 
 pub ideal_some : (c : IdealCommand) (args : Items Things) → AreLawful args → SomeValue (case_of c args)
-ideal_some (OfIdeal f) args l = of_ideal_some _ (fact_row f) (fact_some f) args l
-ideal_some (OfTable i) args l = of_semigroup_some _ (table_row i) (table_some i) args l
-ideal_some (OfBoth i) args l = of_semigroup_some _ (both_row i) (both_some i) args l
-ideal_some Generated args l = of_list_then_semigroup_some _ generated_row generated_row_some args l
-ideal_some (OfTwoIdeals p) args l = of_two_ideals_some _ (pair_row p) (pair_row_some p) args l
+ideal_some (OfIdeal f) args l = of_ideal_some [] (fact_row f) (fact_some f) args l
+ideal_some (OfTable i) args l = of_semigroup_some (apery_table ∷ []) (table_row i) (table_some i) args l
+ideal_some (OfBoth i) args l = of_semigroup_some (apery_table ∷ pseudo_frobenius ∷ []) (both_row i) (both_some i) args l
+ideal_some Generated args l = of_list_then_semigroup_some (apery_table ∷ []) generated_row generated_row_some args l
+ideal_some (OfTwoIdeals p) args l = of_two_ideals_some (apery_table ∷ []) (pair_row p) (pair_row_some p) args l

@@ -12,7 +12,7 @@ use Rattle.sg_laws_invariants.proofs.MemberDecisions.{member-decided}
 use Rattle.sg_lawful.specs.Lawful.{IsLawfulList}
 use Rattle.sg_value.specs.Data.{int, Items}
 use Rattle.sg_value.specs.Plain.{Things}
-use Rattle.sg_rows.specs.Asks.{apery_table}
+use Rattle.sg_rows.specs.Asks.{apery_table, pseudo_frobenius}
 use Rattle.sg_rows.specs.Forms.{of_semigroup, of_semigroup_and_integer}
 use Rattle.sg_rows.specs.Lawful.{AreLawful}
 use Rattle.sg_rows.specs.Limits.{spanned}
@@ -85,11 +85,11 @@ modulo_some G n g = (
 )
 
 pub fact_some : (f : Fact) (args : Items Things) → AreLawful args → SomeValue (case_of f args)
-fact_some (OfGenerators f) = of_semigroup_some _ (generators_row f) (generators_some f)
-fact_some (OfTable f) = of_semigroup_some _ (table_row f) (table_some f)
-fact_some (OfNumbers f) = of_semigroup_some _ (numbers_row f) (numbers_some f)
-fact_some (OfBoth f) = of_semigroup_some _ (both_row f) (both_some f)
+fact_some (OfGenerators f) = of_semigroup_some [] (generators_row f) (generators_some f)
+fact_some (OfTable f) = of_semigroup_some (apery_table ∷ []) (table_row f) (table_some f)
+fact_some (OfNumbers f) = of_semigroup_some (pseudo_frobenius ∷ []) (numbers_row f) (numbers_some f)
+fact_some (OfBoth f) = of_semigroup_some (apery_table ∷ pseudo_frobenius ∷ []) (both_row f) (both_some f)
 fact_some AperyList = λ args l.
     let own = table_row table.AperyList in
-    or_else_some (of_semigroup (apery_table ∷ []) args own) (of_semigroup_and_integer (apery_table ∷ []) args apery_modulo_row) (of_semigroup_some _ own (table_some table.AperyList) args l)
-    (of_semigroup_and_integer_some _ apery_modulo_row modulo_some args l)
+    or_else_some (of_semigroup (apery_table ∷ []) args own) (of_semigroup_and_integer (apery_table ∷ []) args apery_modulo_row) (of_semigroup_some (apery_table ∷ []) own (table_some table.AperyList) args l)
+    (of_semigroup_and_integer_some (apery_table ∷ []) apery_modulo_row modulo_some args l)

@@ -1,5 +1,5 @@
 -- The rows on shapes have a value: each shape is decided, and each closure and the decomposition exist.
-use Rattle.std.proofs.Common.{ℕ, List, refl, subst, inl, inr}
+use Rattle.std.proofs.Common.{ℕ, List, [], ◌∷◌, refl, subst, inl, inr}
 use Rattle.std.specs.Prelude.{◌⊎◌}
 use Rattle.std.proofs.lemmas.Bool.{cases_lt}
 use Rattle.sg_defs.specs.Membership.{IsMember, IsNumericalSemigroup, IsMinimal, IsMultiplicity}
@@ -20,6 +20,7 @@ use Rattle.sg_laws_symmetry.proofs.DecompositionExists.{decomposition-exists}
 use Rattle.sg_lawful.specs.Lawful.{IsLawfulList}
 use Rattle.sg_value.specs.Data.{semigroup, Items}
 use Rattle.sg_value.specs.Plain.{Things}
+use Rattle.sg_rows.specs.Asks.{apery_table, pseudo_frobenius}
 use Rattle.sg_rows.specs.Lawful.{AreLawful}
 use Rattle.sg_lawful.specs.Spans.{IsWide, IsShort}
 use Rattle.sg_rows.specs.Limits.{spanned}
@@ -138,7 +139,7 @@ table_some test.IsSaturated G g = spanned_test_some G (IsSaturated G) g.semigrou
 table_some test.IsSymmetric G g = test_some G (IsSymmetric G) (symmetric-decided G g.semigroup)
 
 pub shape_some : (s : Shape) (args : Items Things) → AreLawful args → SomeValue (case_of s args)
-shape_some (shape.TestOfGenerators t) = of_semigroup_some _ (generators_row t) (generators_some t)
-shape_some (shape.TestOfTable t) = of_semigroup_some _ (table_row t) (table_some t)
-shape_some (shape.Closure c) = of_semigroup_some _ (closure_row c) (closure_some c)
-shape_some (shape.Decomposition p) = of_semigroup_some _ (decomposition_row p) (decomposition_some p)
+shape_some (shape.TestOfGenerators t) = of_semigroup_some [] (generators_row t) (generators_some t)
+shape_some (shape.TestOfTable t) = of_semigroup_some (apery_table ∷ []) (table_row t) (table_some t)
+shape_some (shape.Closure c) = of_semigroup_some (apery_table ∷ []) (closure_row c) (closure_some c)
+shape_some (shape.Decomposition p) = of_semigroup_some (apery_table ∷ pseudo_frobenius ∷ []) (decomposition_row p) (decomposition_some p)
