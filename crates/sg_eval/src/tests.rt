@@ -26,7 +26,7 @@ fn first_of(
     texts: (&[u8], &[u8]),
     out: &mut MemSink,
 ) -> Result<Result<Flow, StepFault>, Fail> {
-    let mut machine = Machine::new(alloc, Store::new(alloc));
+    let mut machine = Machine::new(alloc, Store::new(alloc, 2)?, 1);
     let ended = step(alloc, &mut machine, texts.0, out)?;
     step(alloc, &mut machine, texts.1, out)?.ok();
     Ok(ended)
