@@ -6,3 +6,5 @@ pub mod MadeValues
 pub mod OneReply
 pub mod SomeReply
 pub mod AfterLemmas
+pub mod EarlyLemmas
+pub mod NoLate

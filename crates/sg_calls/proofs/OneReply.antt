@@ -63,18 +63,18 @@ membership_one : (a b : Plain) → OneValue (membership a b)
 membership_one a b =
     let of_semigroup = on_integer_and_semigroup (apery_table ∷ []) a b (λ x G. answers (whether (IsIntegerMember G x))) in
     or_else_one (fitted (as_list b) nothing (λ ds. answers (whether (IsEntry a ds)))) _ (fitted_one (as_list b) nothing (λ ds. answers (whether (IsEntry a ds))) (λ ds. whether_one (IsEntry a ds)))
-    (or_else_one of_semigroup (on_integer_and_ideal (apery_table ∷ []) a b member_row) (on_integer_and_semigroup_one _ (λ x G. answers (whether (IsIntegerMember G x))) (λ x G. whether_one (IsIntegerMember G x)) a b) (member_one _ a b))
+    (or_else_one of_semigroup (on_integer_and_ideal (apery_table ∷ []) a b member_row) (on_integer_and_semigroup_one (apery_table ∷ []) (λ x G. answers (whether (IsIntegerMember G x))) (λ x G. whether_one (IsIntegerMember G x)) a b) (member_one (apery_table ∷ []) a b))
 
 moved_one : (a b : Plain) → OneValue (moved_or_generated a b)
-moved_one a b = or_else_one (on_integer_and_ideal (apery_table ∷ []) a b translate_row) (on_list_and_semigroup (apery_table ∷ []) a b generated_row) (translate_one _ a b) (generated_one _ a b)
+moved_one a b = or_else_one (on_integer_and_ideal (apery_table ∷ []) a b translate_row) (on_list_and_semigroup (apery_table ∷ []) a b generated_row) (translate_one (apery_table ∷ []) a b) (generated_one (apery_table ∷ []) a b)
 
 operation_one : (n : ℕ) (op : Operator) (a b : Plain) → OneValue (operation n op a b)
 operation_one n Eq a b = whether_one _
 operation_one n Ne a b = whether_one _
 operation_one n Member a b = membership_one a b
-operation_one n Plus a b = or_else_one (of_integers Plus a b) _ (of_integers_one Plus a b) (or_else_one (on_two_ideals (apery_table ∷ []) a b (pair_row Sum)) (moved_or_generated a b) (pair_one _ Sum a b) (moved_one a b))
-operation_one n Less a b = or_else_one (of_integers Less a b) (on_two_ideals (apery_table ∷ []) a b (pair_row Difference)) (of_integers_one Less a b) (pair_one _ Difference a b)
-operation_one n Times a b = or_else_one (of_integers Times a b) (on_integer_and_ideal (apery_table ∷ []) a b multiple_row) (of_integers_one Times a b) (multiple_one _ a b)
+operation_one n Plus a b = or_else_one (of_integers Plus a b) _ (of_integers_one Plus a b) (or_else_one (on_two_ideals (apery_table ∷ []) a b (pair_row Sum)) (moved_or_generated a b) (pair_one (apery_table ∷ []) Sum a b) (moved_one a b))
+operation_one n Less a b = or_else_one (of_integers Less a b) (on_two_ideals (apery_table ∷ []) a b (pair_row Difference)) (of_integers_one Less a b) (pair_one (apery_table ∷ []) Difference a b)
+operation_one n Times a b = or_else_one (of_integers Times a b) (on_integer_and_ideal (apery_table ∷ []) a b multiple_row) (of_integers_one Times a b) (multiple_one (apery_table ∷ []) a b)
 operation_one n Mod a b = of_integers_one Mod a b
 operation_one n Lt a b = of_integers_one Lt a b
 operation_one n Le a b = of_integers_one Le a b

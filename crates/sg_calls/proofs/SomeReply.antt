@@ -72,19 +72,19 @@ membership_some a b l =
     or_else_some (fitted (as_list b) nothing (λ ds. answers (whether (IsEntry a ds)))) _
     (fitted_some (λ ds. ⊤) (as_list b) nothing (λ ds. answers (whether (IsEntry a ds))) (any_some (as_list b)) (λ ds u. answers_some _ (whether_some (IsEntry a ds) (entry-decided a ds))))
     (or_else_some of_semigroup (on_integer_and_ideal (apery_table ∷ []) a b member_row)
-    (on_integer_and_semigroup_some _ (λ x G. answers (whether (IsIntegerMember G x))) (λ x G g. answers_some _ (whether_some (IsIntegerMember G x) (integer_member-decided G x))) a b l)
-    (member_some _ a b l))
+    (on_integer_and_semigroup_some (apery_table ∷ []) (λ x G. answers (whether (IsIntegerMember G x))) (λ x G g. answers_some _ (whether_some (IsIntegerMember G x) (integer_member-decided G x))) a b l)
+    (member_some (apery_table ∷ []) a b l))
 
 moved_some : (a b : Plain) → IsLawful b → SomeValue (moved_or_generated a b)
-moved_some a b l = or_else_some (on_integer_and_ideal (apery_table ∷ []) a b translate_row) (on_list_and_semigroup (apery_table ∷ []) a b generated_row) (translate_some _ a b l) (generated_some _ a b l)
+moved_some a b l = or_else_some (on_integer_and_ideal (apery_table ∷ []) a b translate_row) (on_list_and_semigroup (apery_table ∷ []) a b generated_row) (translate_some (apery_table ∷ []) a b l) (generated_some (apery_table ∷ []) a b l)
 
 operation_some : (n : ℕ) (op : Operator) (a b : Plain) → IsLawful a → IsLawful b → SomeValue (operation n op a b)
 operation_some n Eq a b l m = answers_some _ (whether_some (a ≡ b) (data-decided a b))
 operation_some n Ne a b l m = answers_some _ (whether_some (a ≡ b → ⊥) (decided-not (a ≡ b) (data-decided a b)))
 operation_some n Member a b l m = membership_some a b m
-operation_some n Plus a b l m = or_else_some (of_integers Plus a b) _ (of_integers_some Plus a b) (or_else_some (on_two_ideals (apery_table ∷ []) a b (pair_row Sum)) (moved_or_generated a b) (pair_some _ Sum a b l m) (moved_some a b m))
-operation_some n Less a b l m = or_else_some (of_integers Less a b) (on_two_ideals (apery_table ∷ []) a b (pair_row Difference)) (of_integers_some Less a b) (pair_some _ Difference a b l m)
-operation_some n Times a b l m = or_else_some (of_integers Times a b) (on_integer_and_ideal (apery_table ∷ []) a b multiple_row) (of_integers_some Times a b) (multiple_some _ a b m)
+operation_some n Plus a b l m = or_else_some (of_integers Plus a b) _ (of_integers_some Plus a b) (or_else_some (on_two_ideals (apery_table ∷ []) a b (pair_row Sum)) (moved_or_generated a b) (pair_some (apery_table ∷ []) Sum a b l m) (moved_some a b m))
+operation_some n Less a b l m = or_else_some (of_integers Less a b) (on_two_ideals (apery_table ∷ []) a b (pair_row Difference)) (of_integers_some Less a b) (pair_some (apery_table ∷ []) Difference a b l m)
+operation_some n Times a b l m = or_else_some (of_integers Times a b) (on_integer_and_ideal (apery_table ∷ []) a b multiple_row) (of_integers_some Times a b) (multiple_some (apery_table ∷ []) a b m)
 operation_some n Mod a b l m = of_integers_some Mod a b
 operation_some n Lt a b l m = of_integers_some Lt a b
 operation_some n Le a b l m = of_integers_some Le a b

@@ -40,14 +40,26 @@ membership a b =
 abbrev pub moved_or_generated : Plain → Plain → Case
 moved_or_generated a b = or_else (on_integer_and_ideal (apery_table ∷ []) a b translate_row) (on_list_and_semigroup (apery_table ∷ []) a b generated_row)
 
+-- the sum of two integers, of two ideals, of an integer and an ideal, or the ideal of a list over a semigroup
+abbrev pub addition : Plain → Plain → Case
+addition a b = or_else (of_integers Plus a b) (or_else (on_two_ideals (apery_table ∷ []) a b (pair_row Sum)) (moved_or_generated a b))
+
+-- the difference of two integers, or of two ideals
+abbrev pub subtraction : Plain → Plain → Case
+subtraction a b = or_else (of_integers Less a b) (on_two_ideals (apery_table ∷ []) a b (pair_row Difference))
+
+-- the product of two integers, or of an integer and an ideal
+abbrev pub multiplication : Plain → Plain → Case
+multiplication a b = or_else (of_integers Times a b) (on_integer_and_ideal (apery_table ∷ []) a b multiple_row)
+
 -- what the row of an operator says of its operands, within a budget of steps that none counts yet
 abbrev pub operation : ℕ → Operator → Plain → Plain → Case
 operation budget Eq a b = fits [] (answers (whether (a ≡ b)))
 operation budget Ne a b = fits [] (answers (whether (a ≡ b → ⊥)))
 operation budget Member a b = membership a b
-operation budget Plus a b = or_else (of_integers Plus a b) (or_else (on_two_ideals (apery_table ∷ []) a b (pair_row Sum)) (moved_or_generated a b))
-operation budget Less a b = or_else (of_integers Less a b) (on_two_ideals (apery_table ∷ []) a b (pair_row Difference))
-operation budget Times a b = or_else (of_integers Times a b) (on_integer_and_ideal (apery_table ∷ []) a b multiple_row)
+operation budget Plus a b = addition a b
+operation budget Less a b = subtraction a b
+operation budget Times a b = multiplication a b
 operation budget Mod a b = of_integers Mod a b
 operation budget Lt a b = of_integers Lt a b
 operation budget Le a b = of_integers Le a b

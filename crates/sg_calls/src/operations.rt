@@ -10,7 +10,7 @@ ghost use Rattle.sg_rows.specs.Values.{answers};
 ghost use Rattle.sg_rows.specs.Replies.{Replies, RepliesOf};
 ghost use Rattle.sg_calls.specs.After.{Asked, Asks};
 ghost use Rattle.sg_calls.specs.Early.{early_of};
-ghost use Rattle.sg_calls.specs.Operations.{calculation, of_integers, operation, moved_or_generated, negation};
+ghost use Rattle.sg_calls.specs.Operations.{calculation, of_integers, operation, addition, subtraction, multiplication, moved_or_generated, negation};
 ghost use Rattle.sg_calls.specs.Remainders.{IsRemainder};
 
 use crate::asks::{integer_then_ideal, list_then_table, two_ideals};
@@ -103,9 +103,9 @@ fn on_ideal_or_list(
 fn plus(alloc: Global, store: &mut Store, a: &Value, b: &Value) -> Result<Value, CallFault>
     requires left { AllKnown (named store.old.ids) a.now }
     requires right { AllKnown (named store.old.ids) b.now }
-    ensures reply { Replies result store.new.ids (operation 0 Operator.Plus (plain (named store.old.ids) a.now) (plain (named store.old.ids) b.now)) }
+    ensures reply { Replies result store.new.ids (addition (plain (named store.old.ids) a.now) (plain (named store.old.ids) b.now)) }
     ensures keeps { Keeps store.old.ids store.new.ids }
-    ensures asked { Asked result (early_of (operation 0 Operator.Plus (plain (named store.old.ids) a.now) (plain (named store.old.ids) b.now))) store.old.attributes store.new.attributes }
+    ensures asked { Asked result (early_of (addition (plain (named store.old.ids) a.now) (plain (named store.old.ids) b.now))) store.old.attributes store.new.attributes }
 {
     if let Some((x, y)) = two_integers(a, b) {
         return calculate(Operator::Plus, x, y);
@@ -126,9 +126,9 @@ fn plus(alloc: Global, store: &mut Store, a: &Value, b: &Value) -> Result<Value,
 fn less(alloc: Global, store: &mut Store, a: &Value, b: &Value) -> Result<Value, CallFault>
     requires left { AllKnown (named store.old.ids) a.now }
     requires right { AllKnown (named store.old.ids) b.now }
-    ensures reply { Replies result store.new.ids (operation 0 Operator.Less (plain (named store.old.ids) a.now) (plain (named store.old.ids) b.now)) }
+    ensures reply { Replies result store.new.ids (subtraction (plain (named store.old.ids) a.now) (plain (named store.old.ids) b.now)) }
     ensures keeps { Keeps store.old.ids store.new.ids }
-    ensures asked { Asked result (early_of (operation 0 Operator.Less (plain (named store.old.ids) a.now) (plain (named store.old.ids) b.now))) store.old.attributes store.new.attributes }
+    ensures asked { Asked result (early_of (subtraction (plain (named store.old.ids) a.now) (plain (named store.old.ids) b.now))) store.old.attributes store.new.attributes }
 {
     if let Some((x, y)) = two_integers(a, b) {
         return calculate(Operator::Less, x, y);
@@ -146,9 +146,9 @@ fn less(alloc: Global, store: &mut Store, a: &Value, b: &Value) -> Result<Value,
 /// The operator `*`: of two integers, or of an integer and an ideal.
 fn times(alloc: Global, store: &mut Store, a: &Value, b: &Value) -> Result<Value, CallFault>
     requires right { AllKnown (named store.old.ids) b.now }
-    ensures reply { Replies result store.new.ids (operation 0 Operator.Times (plain (named store.old.ids) a.now) (plain (named store.old.ids) b.now)) }
+    ensures reply { Replies result store.new.ids (multiplication (plain (named store.old.ids) a.now) (plain (named store.old.ids) b.now)) }
     ensures keeps { Keeps store.old.ids store.new.ids }
-    ensures asked { Asked result (early_of (operation 0 Operator.Times (plain (named store.old.ids) a.now) (plain (named store.old.ids) b.now))) store.old.attributes store.new.attributes }
+    ensures asked { Asked result (early_of (multiplication (plain (named store.old.ids) a.now) (plain (named store.old.ids) b.now))) store.old.attributes store.new.attributes }
 {
     if let Some((x, y)) = two_integers(a, b) {
         return calculate(Operator::Times, x, y);

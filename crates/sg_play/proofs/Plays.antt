@@ -128,8 +128,7 @@ waits-front {budget} {keep} {bytes} {passed} {feeds} {vars} more whole (next {p 
     (statement-more budget keep begin end bytes more passed feeds vars (goes r qs rs vars') c h) k) in
     let stop : end' ≡ end = cc in
     let others = same-rest budget keep whole longer passed feeds end end' vars' vars'' tail' stop (sym turn.3) rest' in
-    let fronts = waits-front more whole rest (rest-less budget keep whole begin end bytes more passed feeds vars' tail' c others) w in
-    (
+    let fronts = waits-front more whole rest (rest-less budget keep whole begin end bytes more passed feeds vars' tail' c others) w in (
       front-behind r r' tail.written tail'.written turn.0 fronts.0,
       front-behind qs qs' tail.asked tail'.asked turn.1 fronts.1,
       front-behind rs rs' tail.refusals tail'.refusals turn.2 fronts.2,

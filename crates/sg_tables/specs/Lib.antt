@@ -3,5 +3,6 @@ pub mod Closed
 pub mod Few
 pub mod Minimal
 pub mod Modulus
-pub mod Relaxation
+pub mod Spread
 pub mod Sums
+pub mod Visits

@@ -6,27 +6,33 @@ ghost use Rattle.sg_defs.specs.Membership.{IsNumericalSemigroup, IsMember, Gener
 ghost use Rattle.sg_classes.specs.Entries.{AreSmall};
 ghost use Rattle.sg_classes.specs.Table.{IsTable};
 
+use crate::closing::close;
 use crate::few::take_all;
 use crate::minimal::minimal_part;
-use crate::relaxation::{UNREACHED, relax_fully};
-use sg_classes::MULTIPLICITY_LIMIT;
+use crate::spread::UNREACHED;
+use crate::visits::visit_from;
+use sg_classes::{MULTIPLICITY_LIMIT, lower_all};
 use sg_nat::Nats;
 use std::alloc::{AllocError, Global};
 
 /// So many generators are followed round one by one.
 const FEW: usize = 20;
 
-/// Makes a table without members the Apery list modulo its length.
-fn fill(table: &mut [u64], generators: &[u64])
+/// Makes a table without members the Apery list of ascending generators modulo the least of them.
+fn fill(alloc: Global, table: &mut [u64], generators: &[u64]) -> Result<(), AllocError>
+    requires ascending { IsStrictlyIncreasing generators.now }
     requires semigroup { IsNumericalSemigroup generators.now }
     requires small { AreSmall generators.now }
     requires long { length table.old ≡ slice_index generators.now 0 }
     requires short { length table.old ≤ MULTIPLICITY_LIMIT }
     requires unreached { EachIndex table.old (λ k. slice_index table.old k ≡ UNREACHED) }
-    ensures { IsTable generators.now table.new }
+    ensures { OnOk result (IsTable generators.now table.new) }
 {
     table[0] = 0;
-    relax_fully(table, generators);
+    lower_all(table, generators);
+    visit_from(alloc, table, generators)?;
+    close(table, generators);
+    Ok(())
 }
 
 /// Makes a table without members the Apery list of ascending generators modulo the least of them, and lists those that
@@ -50,7 +56,7 @@ fn fill_and_list(
     if generators.len() <= FEW {
         return take_all(table, minimal, generators);
     }
-    fill(table, generators);
+    fill(alloc, table, generators)?;
     *minimal = minimal_part(alloc, table, generators)?;
     Ok(())
 }
@@ -90,6 +96,6 @@ pub fn apery_list_of_minimal(alloc: Global, generators: &[u64]) -> Result<Vec<u6
         return apery_list(alloc, generators, &mut minimal);
     }
     let mut table = vec![in alloc; UNREACHED; generators[0] as usize]?;
-    fill(&mut table, generators);
+    fill(alloc, &mut table, generators)?;
     Ok(table)
 }

@@ -7,13 +7,15 @@
 #![tactic(auto)]
 
 mod circles;
+mod closing;
 mod few;
 mod filling;
 mod kunz;
 mod minimal;
 mod modulus;
-mod relaxation;
+mod spread;
 mod sums;
+mod visits;
 
 pub use filling::{apery_list, apery_list_of_minimal};
 pub use kunz::{is_kunz, kunz_generators};

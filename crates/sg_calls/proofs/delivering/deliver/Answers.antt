@@ -18,13 +18,13 @@ light b n m h is same = by (dec_le WEIGHT_LIMIT n)
 
 pub returns-in-Ok-clause-delivered : goal.returns-in-Ok-clause-delivered
 returns-in-Ok-clause-delivered c =
-    let store = c.args.store.now in
+    let store = c.args.ids.now in
     let many = subst (λ n. WEIGHT_LIMIT ≤ n) c.entry_count.ensures (c.is_heavy.ensures.0 c.if-is_heavy.true) in
     subst (λ t. IsDelivered t store (Err (Script TooLarge))) (sym c.in-Ok.is) (heavy_replies store c.in-Ok.made many)
 
 pub returns-in_ok-value_of-in-Ok-2-clause-delivered : goal.returns-in_ok-value_of-in-Ok-2-clause-delivered
 returns-in_ok-value_of-in-Ok-2-clause-delivered c =
-    let store = c.value_of.new.store in
+    let store = c.value_of.new.ids in
     let v = c.in_ok-value_of-in-Ok-2.field-0 in
     let few = light c.is_heavy.result c.entry_count.result (entries_made c.in-Ok.made) c.is_heavy.ensures c.if-is_heavy.false c.entry_count.ensures in
     subst (λ t. IsDelivered t store (Ok v)) (sym c.in-Ok.is) (value_replies store c.in-Ok.made v c.in_ok-value_of-in-Ok-2.ensures.value few)

@@ -10,7 +10,7 @@ use Rattle.sg_calls.proofs.delivering.value_of.Goals as goal
 
 pub returns-in_ok-integer_values-in-Integers-clause-value : goal.returns-in_ok-integer_values-in-Integers-clause-value
 returns-in_ok-integer_values-in-Integers-clause-value c =
-    let store = c.args.store.now in
+    let store = c.args.ids.now in
     let vs = c.in_ok-integer_values-in-Integers.field-0.items in
     let same = c.in_ok-integer_values-in-Integers.ensures ∙ ap (λ zs. items_of (map int zs)) c.as_slice.ensures in
     subst (λ m. IfOk c.list_value.result (IsValueOf store m)) (sym c.in-Integers.is)
@@ -18,7 +18,7 @@ returns-in_ok-integer_values-in-Integers-clause-value c =
 
 pub returns-in_ok-natural_values-in-Naturals-clause-value : goal.returns-in_ok-natural_values-in-Naturals-clause-value
 returns-in_ok-natural_values-in-Naturals-clause-value c =
-    let store = c.args.store.now in
+    let store = c.args.ids.now in
     let vs = c.in_ok-natural_values-in-Naturals.field-0.items in
     let r = c.list_value-in-Naturals.result in
     let same = c.in_ok-natural_values-in-Naturals.ensures ∙ ap (λ ns. items_of (map (λ n. int (pos n)) ns)) c.as_slice-in-Naturals.ensures in

@@ -13,10 +13,10 @@ use Rattle.sg_calls.proofs.families.of_apery.Goals as goal
 pub returns-in-None-clause-reply : goal.returns-in-None-clause-reply
 returns-in-None-clause-reply c =
     let args = c.args.args.now in
-    let all = plain_of_all (named c.args.store.now) args in
+    let all = plain_of_all (named c.args.store.now.ids) args in
     let sole = one as_semigroup all in
     let r = c.of_table_and_integer.result in
-    let store = c.of_table_and_integer.new.store in
+    let store = c.of_table_and_integer.new.store.ids in
     let none = found_none (sole ≡ None) (λ t. sole ≡ Some t.value) c.in_ok-table.field-0 c.in_ok-table.ensures.table c.in-None.is in
-    let reply = subst (λ s. Replies r store (of_semigroup_and_integer (apery_table ∷ []) (plain_of_all (named s) args) apery_modulo_row)) c.one_table.ensures.unchanged c.of_table_and_integer.ensures.reply in
+    let reply = subst (λ s. Replies r store (of_semigroup_and_integer (apery_table ∷ []) (plain_of_all (named s) args) apery_modulo_row)) c.one_table.ensures.ids c.of_table_and_integer.ensures.reply in
     other_fitted sole _ (table_row table.AperyList) store r (of_semigroup_and_integer (apery_table ∷ []) all apery_modulo_row) none reply

@@ -31,10 +31,10 @@ member_replies store asked v whole x id at G I b is same kept also the h =
 
 pub returns-clause-reply : goal.returns-clause-reply
 returns-clause-reply c =
-    let store = c.args.store.now in
+    let store = c.args.store.now.ids in
     let x = c.in-Some.x in
     let b = c.is_member.result in
     let fit : FitsSigned w64 x = search rules in
-    member_replies store c.table_of_ideal.new.store c.args.v.now c.args.whole.now x c.in-Some.id _ c.deref.result.now c.as_slice-generators.result.now b (sym c.in-Some.ensures) (c.deref.ensures ∙ c.in_ok-table.ensures.table)
-    c.table_of_ideal.ensures.unchanged (c.as_slice-generators.ensures ∙ c.ideal_generators.ensures.list) (search rules)
+    member_replies store c.table_of_ideal.new.store.ids c.args.v.now c.args.whole.now x c.in-Some.id _ c.deref.result.now c.as_slice-generators.result.now b (sym c.in-Some.ensures) (c.deref.ensures ∙ c.in_ok-table.ensures.table)
+    c.table_of_ideal.ensures.ids (c.as_slice-generators.ensures ∙ c.ideal_generators.ensures.list) (search rules)
     (of_bits_right (λ z. IsTrue b ↔ IsIdealMember c.deref.result.now c.as_slice-generators.result.now z) x fit c.is_member.ensures)

@@ -22,7 +22,7 @@ use Rattle.sg_calls.proofs.membership.member.Goals as goal
 
 pub returns-in-Some-clause-reply : goal.returns-in-Some-clause-reply
 returns-in-Some-clause-reply c =
-    let store = c.args.store.now in
+    let store = c.args.store.now.ids in
     let names = named store in
     let a = plain names c.args.v.now in
     let b = plain names c.args.whole.now in
@@ -32,7 +32,7 @@ returns-in-Some-clause-reply c =
 
 pub returns-in-Some-2-clause-reply : goal.returns-in-Some-2-clause-reply
 returns-in-Some-2-clause-reply c =
-    let store = c.args.store.now in
+    let store = c.args.store.now.ids in
     let names = named store in
     let a = plain names c.args.v.now in
     let b = plain names c.args.whole.now in

@@ -1,0 +1,12 @@
+use Rattle.std.proofs.Common.{◌+◌, ◌-◌, ◌/◌, arith}
+use Rattle.sg_tables.proofs.VisitLemmas.{more_than}
+use Rattle.sg_tables.proofs.visits.count_up_to.Goals as goal
+
+pub loop-low-preserved-then-entries-middle : goal.loop-low-preserved-then-entries-middle
+loop-low-preserved-then-entries-middle c =
+    let l = c.loop-low in
+    record {
+      ordered = omega arith;
+      inside = omega (arith, l.invariant.inside);
+      after = more_than c.args.entries.now c.args.most (l.low + (l.high - l.low) / 2) c.requires (omega (arith, l.invariant.inside, c.loop-low-test.true)) c.if-entries-middle.true;
+    }
