@@ -22,3 +22,15 @@ pub struct Finish {
     /// How often attributes were asked for and made.
     pub counts: Counts,
 }
+
+impl Finish {
+    ghost use Rattle.std.specs.Prelude.{◌≡◌};
+
+    /// A play that ended so.
+    pub fn new(cause: Cause, counts: Counts) -> Finish
+        ensures cause { result.cause ≡ cause }
+        ensures counts { result.counts ≡ counts }
+    {
+        Finish { cause, counts }
+    }
+}

@@ -78,12 +78,7 @@ pub fn play<S: Source, W: Sink, E: Sink>(
             err,
         ) {
             Turn::Goes(now) => passed = now,
-            Turn::Stops(cause) => {
-                return Finish {
-                    cause,
-                    counts: machine.counts(),
-                };
-            }
+            Turn::Stops(cause) => return Finish::new(cause, machine.counts()),
         }
     }
 }
