@@ -43,9 +43,16 @@ item_lawful (Some ds) None h = tt
 item_lawful (Some ds) (Some (pos n)) h = found_lawful (entry_at ds n) (entry_lawful ds n h)
 item_lawful (Some ds) (Some (negsuc n)) h = tt
 
+-- from one integer to another there is a list, or a refusal
+span_some : (a b : Plain) → SomeReply (IsReply (span_of a b))
+span_some a b = reply_some (span_of a b)
+    (given_some (λ x. ⊤) (as_integer a) (λ x. given (as_integer b) (λ y. fits [] (answers (λ d. d ≡ list (integers_from x (span_count (y -ℤ x))))))) (any_some (as_integer a))
+    (λ x l. given_some (λ y. ⊤) (as_integer b) (λ y. fits [] (answers (λ d. d ≡ list (integers_from x (span_count (y -ℤ x)))))) (any_some (as_integer b))
+    (λ y m. answers_some _ (is_some_value (list (integers_from x (span_count (y -ℤ x)))) (integers_lawful x (span_count (y -ℤ x)))))))
+
 -- with a reply, on the way to which nothing is asked for
-not_asked : (P : Reply → Type 0) → SomeReply P → SomeReply (λ r. (asked : List Asking) × P r × (asked ≡ []))
-not_asked P h = (h.0, ([], h.1, refl), h.2)
+not_asked : (P : Reply → Type 0) → SomeReply P → SomeReply (λ r. (asked : List Asking) × (P r × (asked ≡ [])))
+not_asked P h = (h.0, ([], (h.1, refl)), h.2)
 
 -- a query about lawful values has an answer
 pub answer_some : (n : ℕ) (q : Query) → IsLawfulQuery q → SomeReply (λ r. (asked : List Asking) × IsAnswer n q r asked)
@@ -53,13 +60,8 @@ answer_some n (calls c args) h = asked_for (row n c args) (reply_some (row n c a
 answer_some n (combines op a b) h = operators_some n op a b h.0 h.1
 answer_some n (negates a) h = not_asked (IsReply (negation a)) (sign_some a)
 answer_some n (lists ds) h = not_asked (IsReplyOf (answers (λ d. d ≡ list ds))) (reply_some (fits [] (answers (λ d. d ≡ list ds))) (answers_some _ (is_some_value (list ds) h)))
-answer_some n (spans a b) h = not_asked (IsReply (span_of a b)) (
-  reply_some (span_of a b)
-  (given_some (λ x. ⊤) (as_integer a) (λ x. given (as_integer b) (λ y. fits [] (answers (λ d. d ≡ list (integers_from x (span_count (y -ℤ x))))))) (any_some (as_integer a))
-  (λ x l. given_some (λ y. ⊤) (as_integer b) (λ y. fits [] (answers (λ d. d ≡ list (integers_from x (span_count (y -ℤ x)))))) (any_some (as_integer b))
-  (λ y m. answers_some _ (is_some_value (list (integers_from x (span_count (y -ℤ x)))) (integers_lawful x (span_count (y -ℤ x)))))))
-)
-answer_some n (indexes a i) h = (item_of (as_list a) (as_integer i), ([], refl, refl), item_lawful (as_list a) (as_integer i) ((as_list-each IsLawfulThing) a h.0))
+answer_some n (spans a b) h = not_asked (IsReply (span_of a b)) (span_some a b)
+answer_some n (indexes a i) h = (item_of (as_list a) (as_integer i), ([], (refl, refl)), item_lawful (as_list a) (as_integer i) ((as_list-each IsLawfulThing) a h.0))
 
 -- ---- variables
 
