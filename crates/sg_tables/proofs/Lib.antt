@@ -2,10 +2,11 @@ pub mod CircleLemmas
 pub mod ClosedLemmas
 pub mod ClosingLemmas
 pub mod CoverLemmas
+pub mod FoundLemmas
 pub mod FrontLemmas
 pub mod HalfLemmas
 pub mod KnownLemmas
 pub mod ModulusLemmas
 pub mod PartLemmas
+pub mod StepLemmas
 pub mod SumLemmas
-pub mod VisitLemmas

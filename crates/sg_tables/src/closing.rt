@@ -1,57 +1,57 @@
 //! Rounds over all classes that show that many generators lower no entry any more.
 
-ghost use Rattle.std.specs.Prelude.{◌≡◌, ◌^◌, ◌<◌, ◌≤◌, length, sum, IsTrue, IsFalse};
-ghost use Rattle.std.specs.List.Sorted.{IsStrictlyIncreasing};
-ghost use Rattle.sg_tables.specs.Visits.{AreClosed, IsClosedTo, IsVisited};
+ghost use Rattle.std.specs.Prelude.{◌<◌, length, sum, IsTrue, IsFalse, IfOk, OnOk};
+ghost use Rattle.sg_tables.specs.Found.{AreFound, AreGiven, AreSettled};
 
-use crate::visits::{count_up_to, greatest_step, lead, sum_bound};
+use crate::sources::lead_from;
+use crate::visits::sum_bound;
+use std::alloc::{AllocError, Global};
+use std::cmp::Reverse;
+use std::collections::BinaryHeap;
 
-/// Adds the generators up to the bound to an entry, and says whether one was lowered.
-fn close_class(table: &mut [u64], generators: &[u64], class: usize, bound: u64) -> bool
-    requires class { class < length table.old }
-    requires short { length table.old ≤ 2 ^ 62 }
-    requires ascending { IsStrictlyIncreasing generators.now }
-    ensures visited { IsVisited generators.now table.old table.new }
-    ensures lower { IsTrue result → sum table.new < sum table.old }
-    ensures same { IsFalse result → table.new ≡ table.old }
-    ensures closed { IsFalse result → IsClosedTo generators.now table.new bound class }
+/// Adds generators to each entry, and says whether one was lowered.
+fn close_round(
+    table: &mut [u64],
+    summands: &mut [u64],
+    waiting: &mut BinaryHeap<Reverse<u64>>,
+    generators: &[u64],
+    tops: &[u64],
+    step: u64,
+) -> Result<bool, AllocError>
+    requires given { AreGiven generators.now step tops.now }
+    requires found { AreFound generators.now table.old summands.old }
+    ensures found { OnOk result (AreFound generators.now table.new summands.new) }
+    ensures lower { IfOk result (λ lowered. IsTrue lowered → sum table.new < sum table.old) }
+    ensures settled { IfOk result (λ lowered. IsFalse lowered → AreSettled generators.now table.new summands.new) }
 {
-    let count = count_up_to(generators, greatest_step(table[class], bound));
+    let bound = sum_bound(table, summands, generators);
     let mut lowered = false;
-    for which in 0..count {
-        if lead(table, generators, which, class) {
+    for class in 1..table.len() {
+        let led = lead_from(
+            table, summands, waiting, generators, tops, step, class, bound,
+        )?;
+        if led.lowered {
             lowered = true;
         }
     }
-    lowered
-}
-
-/// The same for each class in turn.
-fn close_round(table: &mut [u64], generators: &[u64]) -> bool
-    requires not_empty { 0 < length table.old }
-    requires short { length table.old ≤ 2 ^ 62 }
-    requires ascending { IsStrictlyIncreasing generators.now }
-    ensures visited { IsVisited generators.now table.old table.new }
-    ensures lower { IsTrue result → sum table.new < sum table.old }
-    ensures closed { IsFalse result → AreClosed generators.now table.new }
-{
-    let bound = sum_bound(table);
-    let mut lowered = false;
-    for class in 0..table.len() {
-        if close_class(table, generators, class, bound) {
-            lowered = true;
-        }
-    }
-    lowered
+    Ok(lowered)
 }
 
 /// Makes rounds until one lowers nothing.
-pub fn close(table: &mut [u64], generators: &[u64])
-    requires not_empty { 0 < length table.old }
-    requires short { length table.old ≤ 2 ^ 62 }
-    requires ascending { IsStrictlyIncreasing generators.now }
-    ensures visited { IsVisited generators.now table.old table.new }
-    ensures closed { AreClosed generators.now table.new }
+pub fn close(
+    alloc: Global,
+    table: &mut [u64],
+    summands: &mut [u64],
+    generators: &[u64],
+    tops: &[u64],
+    step: u64,
+) -> Result<(), AllocError>
+    requires given { AreGiven generators.now step tops.now }
+    requires found { AreFound generators.now table.old summands.old }
+    ensures found { OnOk result (AreFound generators.now table.new summands.new) }
+    ensures settled { OnOk result (AreSettled generators.now table.new summands.new) }
 {
-    while close_round(table, generators) {}
+    let mut waiting = BinaryHeap::new(alloc);
+    'rounds: while close_round(table, summands, &mut waiting, generators, tops, step)? {}
+    Ok(())
 }

@@ -8,12 +8,17 @@
 
 mod circles;
 mod closing;
+mod counts;
 mod few;
 mod filling;
 mod kunz;
+mod leads;
+mod marks;
 mod minimal;
 mod modulus;
+mod sources;
 mod spread;
+mod steps;
 mod sums;
 mod visits;
 

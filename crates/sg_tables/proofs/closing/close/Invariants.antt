@@ -1,9 +1,9 @@
 use Rattle.std.proofs.Common.{sum}
-use Rattle.sg_tables.specs.Visits.{IsVisited}
+use Rattle.sg_tables.specs.Found.{AreFound}
 use Rattle.sg_tables.proofs.closing.close.Given as goal
 
-abbrev pub invariant-loop : goal.invariant-loop
-invariant-loop l = IsVisited l.generators l.fn.table l.table
+abbrev pub invariant-rounds : goal.invariant-rounds
+invariant-rounds l = AreFound l.generators l.table l.summands
 
-abbrev pub decreases-loop : goal.decreases-loop
-decreases-loop l = sum l.table
+abbrev pub decreases-rounds : goal.decreases-rounds
+decreases-rounds l = sum l.table

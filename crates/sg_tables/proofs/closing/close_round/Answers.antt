@@ -1,51 +1,49 @@
-use Rattle.std.proofs.Common.{◌≡◌, ℕ, List, length, get_or, sum, subst, sym, ◌+◌, ◌<◌, ◌≤◌, ◌∙◌, refl, arith}
-use Rattle.sg_tables.proofs.VisitLemmas.{classes-more, lowered-more, visited-both, visited_none}
+use Rattle.std.proofs.Common.{◌≡◌, sum, subst, sym, ◌<◌, ◌∙◌, refl, arith}
+use Rattle.sg_tables.proofs.FoundLemmas.{classes-more, lowered-more, marked-both, marked-none, settled-now}
 use Rattle.sg_tables.proofs.closing.close_round.Goals as goal
-use Rattle.sg_tables.proofs.closing.close_round.Goals.{then-close_class, else-close_class}
+use Rattle.sg_tables.proofs.closing.close_round.Goals.{then-led, else-led}
 
 pub loop-class-init : goal.loop-class-init
 loop-class-init c = record {
-  visited = visited_none c.args.generators.now c.args.table.now;
-  top = c.sum_bound-bound.ensures;
+  found = c.requires.found;
+  more = marked-none c.args.summands.now;
   lower = λ e. cc;
   same = λ e. refl;
-  closed = λ e i l. absurd (omega arith);
+  settled = λ e i after l. absurd (omega arith);
 }
 
 pub loop-class-preserved : goal.loop-class-preserved
 loop-class-preserved c =
     let before = c.loop-class.invariant in
+    let step = c.in_ok-led.ensures in
     let G = c.args.generators.now in
     let first = c.args.table.now in
-    let old = c.loop-class.table in
-    let new = c.close_class.new.table in
-    let visited = visited-both G first old new before.visited c.close_class.ensures.visited in
-    elim c.if-close_class.branch [
-      | then-close_class w ↦ record {
-        visited = visited;
-        top = before.top;
-        lower = λ e. lowered-more c.loop-class.lowered first old new before.lower before.same (c.close_class.ensures.lower w.if-close_class.true);
+    let t = c.loop-class.table in
+    let s = c.loop-class.summands in
+    let u = c.lead_from.new.table in
+    let v = c.lead_from.new.summands in
+    let more = marked-both c.args.summands.now s v before.more step.more in
+    elim c.if-led.branch [
+      | then-led w ↦ record {
+        found = step.found;
+        more = more;
+        lower = λ e. lowered-more c.loop-class.lowered first t u before.lower before.same (step.lower w.if-led.true);
         same = λ e. absurd (let f = w.lowered-is in cc);
-        closed = λ e. absurd (let f = w.lowered-is in cc);
+        settled = λ e. absurd (let f = w.lowered-is in cc);
       }
-      | else-close_class w ↦
-          let kept : new ≡ old = c.close_class.ensures.same w.if-close_class.false in
+      | else-led w ↦
+          let kept : u ≡ t = step.same w.if-led.false in
           record {
-            visited = visited;
-            top = before.top;
+            found = step.found;
+            more = more;
             lower = λ e. subst (λ t. sum t < sum first) (sym kept) (before.lower (sym w.lowered-is ∙ e));
             same = λ e. kept ∙ before.same (sym w.lowered-is ∙ e);
-            closed = λ e. classes-more G old new c.sum_bound-bound.result c.loop-class.class kept (before.closed (sym w.lowered-is ∙ e)) (c.close_class.ensures.closed w.if-close_class.false);
+            settled = λ e. classes-more G t u s v c.sum_bound-bound.result c.loop-class.class kept step.more (before.settled (sym w.lowered-is ∙ e)) (step.settled w.if-led.false);
           }
     ]
 
-pub returns-clause-closed : goal.returns-clause-closed
-returns-clause-closed c = λ e.
+pub returns-clause-settled : goal.returns-clause-settled
+returns-clause-settled c = λ e.
     let h = c.loop-class.invariant in
-    let b = c.sum_bound-bound.result in
-    let all : (t : List ℕ) → Type 0 = λ t. (i : ℕ) → i < length t → get_or t i 0 ≤ b + length t in
-    record {
-      bound = b;
-      top = subst all (sym (h.same e)) h.top;
-      closed = λ i l. h.closed e i (omega (arith, l, c.loop-class.auto.table, c.loop-class-test.false));
-    }
+    settled-now c.args.generators.now c.args.table.now c.args.summands.now c.loop-class.table c.loop-class.summands c.sum_bound-bound.result c.loop-class.class
+    (h.same e) h.more c.sum_bound-bound.ensures.top c.sum_bound-bound.ensures.unmarked (omega (arith, c.loop-class.auto.table, c.loop-class-test.false)) (h.settled e)
