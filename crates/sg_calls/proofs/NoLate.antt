@@ -4,9 +4,9 @@ use Rattle.sg_defs.specs.Membership.{IsIntegerMember}
 use Rattle.sg_value.specs.Data.{Items, int}
 use Rattle.sg_value.specs.Plain.{Things}
 use Rattle.sg_rows.specs.Alternatives.{or_else}
-use Rattle.sg_rows.specs.Asks.{apery_table, nothing}
+use Rattle.sg_rows.specs.Asks.{apery_table, asked_of, nothing}
 use Rattle.sg_rows.specs.Entries.{IsEntry}
-use Rattle.sg_rows.specs.Forms.{on_integer_and_semigroup, on_integer_and_ideal, on_list_and_semigroup, on_two_ideals}
+use Rattle.sg_rows.specs.Forms.{of_semigroup, of_semigroup_and_integer, on_integer_and_semigroup, on_integer_and_ideal, on_list_and_semigroup, on_two_ideals}
 use Rattle.sg_rows.specs.Kinds.{fitted, given, one, two, three, as_integers, as_list, as_semigroup, as_ideal, list_or_integers, two_integers, three_integers, two_semigroups, two_ideals, semigroup_and_integer, integer_then_semigroup, integer_then_ideal, list_then_semigroup}
 use Rattle.sg_rows.specs.Order.{Plain, Case, fits}
 use Rattle.sg_rows.specs.Values.{answers, whether}
@@ -141,7 +141,9 @@ facts_late (fact.OfTable f) args = late_fitted (one as_semigroup args) _ (facts.
 facts_late (fact.OfNumbers f) args = late_fitted (one as_semigroup args) _ (facts.numbers_row f) (numbers_late f)
 facts_late (fact.OfBoth f) args = late_fitted (one as_semigroup args) _ (facts.both_row f) (both_late f)
 facts_late fact.AperyList args =
-    late_or_else _ _ (late_fitted (one as_semigroup args) _ (facts.table_row table.AperyList) (table_late table.AperyList)) (late_fitted (two semigroup_and_integer args) _ (λ p. facts.apery_modulo_row p.0 p.1) (λ p. refl))
+    late_or_else (of_semigroup (apery_table ∷ []) args (facts.table_row table.AperyList)) (of_semigroup_and_integer (apery_table ∷ []) args facts.apery_modulo_row)
+    (late_fitted (one as_semigroup args) (λ G. asked_of (apery_table ∷ []) (G ∷ [])) (facts.table_row table.AperyList) (table_late table.AperyList))
+    (late_fitted (two semigroup_and_integer args) (λ p. asked_of (apery_table ∷ []) (p.0 ∷ [])) (λ p. facts.apery_modulo_row p.0 p.1) (λ p. refl))
 
 -- ---- shapes
 
@@ -200,8 +202,8 @@ factorizations_late factorization.OmegaPrimality args =
 -- ---- all commands, all operators
 
 shared_late : (s : Shared) (args : Items Things) → late_of (shared_case s args) ≡ []
-shared_late Intersection args = late_or_else _ _ (makers_late maker.Intersection args) (ideals_late (ideal.OfTwoIdeals pair.Intersection) args)
-shared_late MinimalGenerators args = late_or_else _ _ (facts_late (fact.OfGenerators generators.MinimalGenerators) args) (ideals_late (ideal.OfIdeal ideal_fact.Generators) args)
+shared_late Intersection args = late_or_else (makers.case_of maker.Intersection args) (ideals.case_of (ideal.OfTwoIdeals pair.Intersection) args) (makers_late maker.Intersection args) (ideals_late (ideal.OfTwoIdeals pair.Intersection) args)
+shared_late MinimalGenerators args = late_or_else (facts.case_of (fact.OfGenerators generators.MinimalGenerators) args) (ideals.case_of (ideal.OfIdeal ideal_fact.Generators) args) (facts_late (fact.OfGenerators generators.MinimalGenerators) args) (ideals_late (ideal.OfIdeal ideal_fact.Generators) args)
 
 -- no row asks for anything late
 pub row_late : (n : ℕ) (c : Command) (args : Items Things) → late_of (row n c args) ≡ []
@@ -247,21 +249,29 @@ pairs_late p a b = late_fitted (two_ideals a b) _ (λ q. pair_row p q.0 q.1) (λ
 
 moved_late : (a b : Plain) → late_of (moved_or_generated a b) ≡ []
 moved_late a b =
-    late_or_else _ _ (late_fitted (integer_then_ideal a b) _ (λ p. translate_row p.0 p.1) (λ p. refl)) (late_fitted (list_then_semigroup a b) _ (λ p. generated_row p.0 p.1) (λ p. refl))
+    late_or_else (on_integer_and_ideal (apery_table ∷ []) a b translate_row) (on_list_and_semigroup (apery_table ∷ []) a b generated_row)
+    (late_fitted (integer_then_ideal a b) (λ p. asked_of (apery_table ∷ []) (p.1.ambient ∷ [])) (λ p. translate_row p.0 p.1) (λ p. refl))
+    (late_fitted (list_then_semigroup a b) (λ p. asked_of (apery_table ∷ []) (p.1 ∷ [])) (λ p. generated_row p.0 p.1) (λ p. refl))
 
 membership_late : (a b : Plain) → late_of (membership a b) ≡ []
 membership_late a b =
-    late_or_else _ _ (late_fitted (as_list b) nothing (λ ds. answers (whether (IsEntry a ds))) (λ ds. refl))
-    (late_or_else _ _ (late_fitted (integer_then_semigroup a b) _ (λ p. answers (whether (IsIntegerMember p.1 p.0))) (λ p. refl)) (late_fitted (integer_then_ideal a b) _ (λ p. member_row p.0 p.1) (λ p. refl)))
+    let in_semigroup = on_integer_and_semigroup (apery_table ∷ []) a b (λ x G. answers (whether (IsIntegerMember G x))) in
+    let in_ideal = on_integer_and_ideal (apery_table ∷ []) a b member_row in
+    late_or_else (fitted (as_list b) nothing (λ ds. answers (whether (IsEntry a ds)))) (or_else in_semigroup in_ideal) (late_fitted (as_list b) nothing (λ ds. answers (whether (IsEntry a ds))) (λ ds. refl))
+    (late_or_else in_semigroup in_ideal
+    (late_fitted (integer_then_semigroup a b) (λ p. asked_of (apery_table ∷ []) (p.1 ∷ [])) (λ p. answers (whether (IsIntegerMember p.1 p.0))) (λ p. refl))
+    (late_fitted (integer_then_ideal a b) (λ p. asked_of (apery_table ∷ []) (p.1.ambient ∷ [])) (λ p. member_row p.0 p.1) (λ p. refl)))
 
 -- no operator asks for anything late
 pub operation_late : (n : ℕ) (op : Operator) (a b : Plain) → late_of (operation n op a b) ≡ []
 operation_late n Eq a b = refl
 operation_late n Ne a b = refl
 operation_late n Member a b = membership_late a b
-operation_late n Plus a b = late_or_else _ _ (of_integers_late Plus a b) (late_or_else _ _ (pairs_late pair.Sum a b) (moved_late a b))
-operation_late n Less a b = late_or_else _ _ (of_integers_late Less a b) (pairs_late pair.Difference a b)
-operation_late n Times a b = late_or_else _ _ (of_integers_late Times a b) (late_fitted (integer_then_ideal a b) _ (λ p. multiple_row p.0 p.1) (λ p. refl))
+operation_late n Plus a b = late_or_else (of_integers Plus a b) (or_else (on_two_ideals (apery_table ∷ []) a b (pair_row pair.Sum)) (moved_or_generated a b)) (of_integers_late Plus a b)
+    (late_or_else (on_two_ideals (apery_table ∷ []) a b (pair_row pair.Sum)) (moved_or_generated a b) (pairs_late pair.Sum a b) (moved_late a b))
+operation_late n Less a b = late_or_else (of_integers Less a b) (on_two_ideals (apery_table ∷ []) a b (pair_row pair.Difference)) (of_integers_late Less a b) (pairs_late pair.Difference a b)
+operation_late n Times a b = late_or_else (of_integers Times a b) (on_integer_and_ideal (apery_table ∷ []) a b multiple_row) (of_integers_late Times a b)
+    (late_fitted (integer_then_ideal a b) (λ p. asked_of (apery_table ∷ []) (p.1.ambient ∷ [])) (λ p. multiple_row p.0 p.1) (λ p. refl))
 operation_late n Mod a b = of_integers_late Mod a b
 operation_late n Lt a b = of_integers_late Lt a b
 operation_late n Le a b = of_integers_late Le a b

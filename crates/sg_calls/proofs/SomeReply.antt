@@ -93,8 +93,8 @@ operation_some n Gt a b l m = of_integers_some Gt a b
 operation_some n Ge a b l m = of_integers_some Ge a b
 
 -- with a reply, and what is asked for on the way to it
-pub asked_for : (c : Case) → SomeReply (IsReply c) → SomeReply (λ r. (asked : List Asking) × IsReply c r × AreAsked c asked)
-asked_for c h = let a = some_asked c h.0 h.1 in (h.0, (a.0, h.1, a.1), h.2)
+pub asked_for : (c : Case) → SomeReply (IsReply c) → SomeReply (λ r. (asked : List Asking) × (IsReply c r × AreAsked c asked))
+asked_for c h = let a = some_asked c h.0 h.1 in (h.0, (a.0, (h.1, a.1)), h.2)
 
 -- an operator has a reply
 pub operators_some : (n : ℕ) (op : Operator) (a b : Plain) → IsLawful a → IsLawful b → SomeReply (λ r. (asked : List Asking) × Combines n op a b r asked)
@@ -125,7 +125,7 @@ case_some n None args h = tt
 case_some n (Some c) args h = row_some n c args h
 
 unless_some : (n : ℕ) (o : Option Fault) (args : Items Things) (c : Option Command) → AreLawful args → SomeReply (λ r. (asked : List Asking) × reply_unless n o args c r asked)
-unless_some n (Some e) args c h = (Err e, ([], refl, refl), tt)
+unless_some n (Some e) args c h = (Err e, ([], (refl, refl)), tt)
 unless_some n None args c h = asked_for (case_of n c args) (reply_some (case_of n c args) (case_some n c args h))
 
 -- a command has a reply

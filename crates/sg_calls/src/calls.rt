@@ -65,8 +65,28 @@ fn of_minimal_generators(
     deliver(alloc, &mut store.ids, told)
 }
 
-/// What the row of a command answers, within a budget of steps that no row counts yet. Known ids go on to stand for what they stood for, and each id in the value is
-/// known. What the row asks for is asked for in its order, also where the row refuses.
+/// The commands that semigroups and ideals have in common.
+fn on_shared(
+    alloc: Global,
+    store: &mut Store,
+    shared: Shared,
+    args: &[Value],
+) -> Result<Value, CallFault>
+    requires count { takes (Command.Shared shared) (length args.now) ≡ true }
+    requires known { AllKnownIn (named store.old.ids) args.now }
+    ensures reply { Replies result store.new.ids (shared_case shared (plain_of_all (named store.old.ids) args.now)) }
+    ensures keeps { Keeps store.old.ids store.new.ids }
+    ensures asked { Asked result (early_of (shared_case shared (plain_of_all (named store.old.ids) args.now))) store.old.attributes store.new.attributes }
+{
+    match shared {
+        Shared::Intersection => of_intersection(alloc, store, args),
+        Shared::MinimalGenerators => of_minimal_generators(alloc, store, args),
+    }
+}
+
+/// What the row of a command answers, within a budget of steps that no row counts yet. Known ids go on to stand for what
+/// they stood for, and each id in the value is known. What the row asks for is asked for in its order, also where the
+/// row refuses.
 pub fn perform(
     alloc: Global,
     store: &mut Store,
@@ -87,8 +107,7 @@ pub fn perform(
         Command::Shapes(shape) => on_shapes(alloc, store, shape, args),
         Command::Ideals(command) => on_ideals(alloc, store, command, args),
         Command::Factorizations(command) => on_factorizations(alloc, store, command, args),
-        Command::Shared(Shared::Intersection) => of_intersection(alloc, store, args),
-        Command::Shared(Shared::MinimalGenerators) => of_minimal_generators(alloc, store, args),
+        Command::Shared(shared) => on_shared(alloc, store, shared, args),
     }
 }
 

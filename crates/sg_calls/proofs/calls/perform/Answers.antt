@@ -4,7 +4,6 @@ use Rattle.sg_value.specs.Plain.{plain_of_all}
 use Rattle.sg_calls.specs.After.{Asks}
 use Rattle.sg_calls.specs.Rows.{row}
 use Rattle.sg_calls.specs.declared.command.Command.TheVariants as command
-use Rattle.sg_calls.specs.declared.command.Shared.TheVariants.{Intersection}
 use Rattle.sg_calls.proofs.EarlyLemmas.{all_asked, asked_none}
 use Rattle.sg_calls.proofs.NoLate.{lists_early, row_late}
 use Rattle.sg_calls.proofs.calls.perform.Goals as goal
@@ -58,5 +57,10 @@ returns-in-Factorizations-clause-asks c =
     let r = c.on_factorizations.result in
     subst (λ k. Asks r (row n k args) c.args.store.now.attributes c.on_factorizations.new.store.attributes) (sym c.in-Factorizations.is) (all_asked r c.on_factorizations.new.store.ids (row n one args) _ _ (row_late n one args) c.on_factorizations.ensures.reply c.on_factorizations.ensures.asked)
 
-pub returns-in-Shared-Intersection-clause-asks : goal.returns-in-Shared-Intersection-clause-asks
-returns-in-Shared-Intersection-clause-asks c = ?
+pub returns-in-Shared-clause-asks : goal.returns-in-Shared-clause-asks
+returns-in-Shared-clause-asks c =
+    let n = c.args.budget in
+    let args = plain_of_all (named c.args.store.now.ids) c.args.args.now in
+    let one = command.Shared c.in-Shared.shared in
+    let r = c.on_shared.result in
+    subst (λ k. Asks r (row n k args) c.args.store.now.attributes c.on_shared.new.store.attributes) (sym c.in-Shared.is) (all_asked r c.on_shared.new.store.ids (row n one args) _ _ (row_late n one args) c.on_shared.ensures.reply c.on_shared.ensures.asked)

@@ -13,3 +13,7 @@ pub returns-in-OfListOrIntegers-clause-reply : goal.returns-in-OfListOrIntegers-
 returns-in-OfListOrIntegers-clause-reply c =
     subst (λ k. Replies c.of_list_or_integers.result c.of_list_or_integers.new.ids (lists.case_of k (plain_of_all (named c.args.ids.now) c.args.args.now))) (sym c.in-OfListOrIntegers.is)
     c.of_list_or_integers.ensures.reply
+
+pub returns-in-Concatenation-clause-reply : goal.returns-in-Concatenation-clause-reply
+returns-in-Concatenation-clause-reply c =
+    subst (λ k. Replies c.concatenation_of.result c.args.ids.now (lists.case_of k (plain_of_all (named c.args.ids.now) c.args.args.now))) (sym c.in-Concatenation.is) (c.concatenation_of.ensures c.args.ids.now c.requires)

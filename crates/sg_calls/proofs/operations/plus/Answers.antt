@@ -1,7 +1,7 @@
 use Rattle.std.proofs.Common.{◌≡◌, Some, None, sym, ◌∙◌, subst, rules, [], ◌∷◌}
 use Rattle.sg_value.specs.Known.{named}
 use Rattle.sg_value.specs.Plain.{contents, plain, thing_at}
-use Rattle.sg_rows.specs.Asks.{apery_table}
+use Rattle.sg_rows.specs.Asks.{apery_table, asked_of}
 use Rattle.sg_rows.specs.Alternatives.{or_else}
 use Rattle.sg_rows.specs.Forms.{on_two_ideals}
 use Rattle.sg_rows.specs.Kinds.{two_ideals, two_integers}
@@ -11,6 +11,9 @@ use Rattle.sg_rows_ideals.specs.Rows.{pair_row}
 use Rattle.sg_rows_ideals.specs.declared.pairs.Pair.TheVariants.{Sum}
 use Rattle.sg_calls.specs.Operations.{calculation, moved_or_generated}
 use Rattle.sg_calls.specs.declared.operator.Operator.TheVariants.{Plus}
+use Rattle.sg_calls.specs.After.{Asked}
+use Rattle.sg_calls.specs.Early.{early_of}
+use Rattle.sg_calls.proofs.EarlyLemmas.{asked_first, asked_not_given, asked_other, none_asked}
 use Rattle.sg_calls.proofs.Fitting.{first_told, found_none, found_some, kept_from, other_fitted, other_given, pair_told}
 use Rattle.sg_calls.proofs.operations.plus.Goals as goal
 
@@ -40,3 +43,32 @@ returns-clause-reply c =
     let reply = subst (λ s. Replies r store (moved_or_generated (plain (named s) c.args.a.now) (plain (named s) c.args.b.now))) c.two_ideals.ensures.ids c.on_ideal_or_list.ensures.reply in
     other_given (two_integers a b) (λ p. calculation Plus p.0 p.1) store r (or_else (on_two_ideals (apery_table ∷ []) a b (pair_row Sum)) (moved_or_generated a b)) none
     (other_fitted (two_ideals a b) _ (λ p. pair_row Sum p.0 p.1) store r (moved_or_generated a b) no_ideals reply)
+
+pub returns-in-Some-2-clause-asked : goal.returns-in-Some-2-clause-asked
+returns-in-Some-2-clause-asked c =
+    let names = named c.args.store.now.ids in
+    let a = plain names c.args.a.now in
+    let b = plain names c.args.b.now in
+    let r = c.deliver.result in
+    let old = c.args.store.now.attributes in
+    let new = c.two_ideals.new.store.attributes in
+    let none : two_integers a b ≡ None = two_integers-plain (thing_at names) (contents c.args.a.now) (contents c.args.b.now) ∙ sym c.in_default.ensures in
+    let found = found_some (two_ideals a b ≡ None) (λ p. (two_ideals a b ≡ Some (p.0.1, p.1.1)) × (p.0.1.ambient ≡ p.0.0.value)) c.in_ok-table.field-0 c.in_ok-table.ensures.both _ c.in-Some-2.is in
+    asked_not_given (two_integers a b) (λ p. calculation Plus p.0 p.1) r old new (or_else (on_two_ideals (apery_table ∷ []) a b (pair_row Sum)) (moved_or_generated a b)) none
+    (asked_first (two_ideals a b) (λ p. asked_of (apery_table ∷ []) (p.0.ambient ∷ p.1.ambient ∷ [])) (λ p. pair_row Sum p.0 p.1) r old new _ (moved_or_generated a b) found.0 c.in_ok-table.ensures.asked)
+
+pub returns-clause-asked : goal.returns-clause-asked
+returns-clause-asked c =
+    let names = named c.args.store.now.ids in
+    let a = plain names c.args.a.now in
+    let b = plain names c.args.b.now in
+    let r = c.on_ideal_or_list.result in
+    let old = c.args.store.now.attributes in
+    let mid = c.two_ideals.new.store.attributes in
+    let new = c.on_ideal_or_list.new.store.attributes in
+    let none : two_integers a b ≡ None = two_integers-plain (thing_at names) (contents c.args.a.now) (contents c.args.b.now) ∙ sym c.in_default.ensures in
+    let no_ideals = found_none (two_ideals a b ≡ None) (λ p. (two_ideals a b ≡ Some (p.0.1, p.1.1)) × (p.0.1.ambient ≡ p.0.0.value)) c.in_ok-table.field-0 c.in_ok-table.ensures.both c.in-None.is in
+    let same = none_asked (apery_table ∷ []) (two_ideals a b) (λ p. p.0.ambient ∷ p.1.ambient ∷ []) old mid no_ideals c.in_ok-table.ensures.asked in
+    let later = subst (λ s. Asked r (early_of (moved_or_generated (plain (named s) c.args.a.now) (plain (named s) c.args.b.now))) mid new) c.two_ideals.ensures.ids c.on_ideal_or_list.ensures.asked in
+    asked_not_given (two_integers a b) (λ p. calculation Plus p.0 p.1) r old new (or_else (on_two_ideals (apery_table ∷ []) a b (pair_row Sum)) (moved_or_generated a b)) none
+    (asked_other (two_ideals a b) (λ p. asked_of (apery_table ∷ []) (p.0.ambient ∷ p.1.ambient ∷ [])) (λ p. pair_row Sum p.0 p.1) r old new (moved_or_generated a b) no_ideals (subst (λ x. Asked r (early_of (moved_or_generated a b)) x new) same later))
