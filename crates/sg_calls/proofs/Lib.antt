@@ -3,6 +3,7 @@ pub mod Asking
 pub mod Fitting
 pub mod Naming
 pub mod MadeValues
+pub mod Weights
 pub mod OneReply
 pub mod SomeReply
 pub mod AfterLemmas
