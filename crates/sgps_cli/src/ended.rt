@@ -46,6 +46,7 @@ fn tells_counts(cause: Cause) -> bool
 {
     match cause {
         Cause::Ok | Cause::Refusals { .. } | Cause::Script { .. } | Cause::Budget { .. } => true,
-        Cause::Usage | Cause::ReadFault | Cause::Overlong | Cause::WriteFault | Cause::Memory => false,
+        Cause::Usage | Cause::ReadFault | Cause::Overlong | Cause::WriteFault | Cause::Memory =>
+            false,
     }
 }

@@ -129,7 +129,16 @@ fn take_turn<S: Source, W: Sink, E: Sink>(
 {
     match window.next_statement() {
         Cut::Statement { line } => {
-            perform(alloc, plan.keep, machine, window.text(), line, passed, out, err)
+            perform(
+                alloc,
+                plan.keep,
+                machine,
+                window.text(),
+                line,
+                passed,
+                out,
+                err,
+            )
         }
         Cut::More => read_more(window, passed, source),
         Cut::End => Turn::Stops(passed.end()),

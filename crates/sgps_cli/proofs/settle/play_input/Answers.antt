@@ -30,8 +30,7 @@ returns-clause-ends g c =
 pub returns-then-is_err-clause-ends : goal.returns-then-is_err-clause-ends
 returns-then-is_err-clause-ends g c =
     let is_error = sym c.is_err.ensures.value ∙ c.if-is_err.true in
-    let failed = of-err c.begin.result is_error c.begin.ensures.failed in
-    (
+    let failed = of-err c.begin.result is_error c.begin.ensures.failed in (
       [],
       wrote-none _,
       subst (λ e. IsClosed e _ []) (same-ended c.bare.result _ _ c.bare.ensures.cause c.bare.ensures.counts)
