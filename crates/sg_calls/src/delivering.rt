@@ -39,11 +39,7 @@ fn natural_values(alloc: Global, ns: &[u64]) -> Result<Vec<Value>, AllocError>
 }
 
 /// Each semigroup as a value, by its old id where it is known.
-fn semigroup_values(
-    alloc: Global,
-    ids: &mut Ids,
-    lists: &[Nats],
-) -> Result<Vec<Value>, AllocError>
+fn semigroup_values(alloc: Global, ids: &mut Ids, lists: &[Nats]) -> Result<Vec<Value>, AllocError>
     requires { All IsLawfulList lists.now }
     ensures plain { IfOk result (λ vs. plain_of_all (named ids.new) vs.items ≡ items_of (map semigroup lists.now)) }
     ensures known { IfOk result (λ vs. AllKnownIn (named ids.new) vs.items) }
