@@ -1,5 +1,5 @@
 -- The greatest delta: of a list of lengths, and over all elements with two classes.
-use Rattle.std.proofs.Common.{◌≡◌, ℕ, ◌+◌, ◌-◌, ◌<◌, ◌≤◌, List, length, get_or, max, ap, subst, inl, inr, arith}
+use Rattle.std.proofs.Common.{◌≡◌, ℕ, ◌+◌, ◌-◌, ◌<◌, ◌≤◌, List, length, get_or, max, sym, ap, subst, inl, inr, arith}
 use Rattle.std.specs.Prelude.{◌⊎◌, ◌↔◌, All, Contains, Option, None, Some}
 use Rattle.std.specs.List.Sorted.{IsStrictlyIncreasing}
 use Rattle.std.proofs.lemmas.Bool.{cases_lt}
@@ -30,28 +30,24 @@ widest-none l = record { bound = λ d h. absurd (omega (arith, h.1)); reached = 
 -- one step more
 pub widest-more : (l : List ℕ) (place widest : ℕ) → IsStrictlyIncreasing l → 1 ≤ place → place < length l → IsWidestBelow l place widest →
     IsWidestBelow l (place + 1) (max widest (get_or l place 0 - get_or l (place - 1) 0))
-widest-more l place widest up first inside h = record {
-  bound = λ d s. elim (cases_lt (s.0 + 1) place) [
-    | inl less ↦ omega (arith, h.bound d (s.0, less, s.2, s.3))
-    | inr more ↦
-        let here : s.0 ≡ place - 1 = omega (arith, s.1, more) in
-        let there : s.0 + 1 ≡ place = omega (arith, s.1, more) in
-        omega (arith, s.3, ap (λ i. get_or l i 0) here, ap (λ i. get_or l i 0) there)
-  ];
-  reached = λ positive. elim (cases_lt widest step) [
-    | inl less ↦ subst (IsStepOf l) (let e : step ≡ max widest step = omega (arith, less) in e) (place - 1, omega (arith, at, inside), subst (λ i. get_or l (place - 1) 0 + step ≡ get_or l i 0) (let e : place ≡ place - 1 + 1 = omega (arith, at) in e) (omega (arith, rises)))
-    | inr more ↦ subst (IsStepOf l) (let e : widest ≡ max widest step = omega (arith, more) in e) (h.reached (omega (arith, positive, more)))
-  ];
-}
-  where
-    step : ℕ
-    step = get_or l place 0 - get_or l (place - 1) 0
-
-    at : place - 1 + 1 ≡ place
-    at = omega (arith, first)
-
-    rises : get_or l (place - 1) 0 < get_or l place 0
-    rises = subst (λ i. get_or l (place - 1) 0 < get_or l i 0) at (up (place - 1) (omega (arith, at, inside)))
+widest-more l place widest up first inside h =
+    let step = get_or l place 0 - get_or l (place - 1) 0 in
+    let at : place - 1 + 1 ≡ place = omega (arith, first) in
+    let rises : get_or l (place - 1) 0 < get_or l place 0 = subst (λ i. get_or l (place - 1) 0 < get_or l i 0) at (up (place - 1) (omega (arith, at, inside))) in
+    record {
+      bound = λ d s. elim (cases_lt (s.0 + 1) place) [
+        | inl less ↦ omega (arith, h.bound d (s.0, less, s.2, s.3))
+        | inr more ↦
+            let here : s.0 ≡ place - 1 = omega (arith, s.1, more) in
+            let there : s.0 + 1 ≡ place = omega (arith, s.1, more) in
+            omega (arith, s.3, ap (λ i. get_or l i 0) here, ap (λ i. get_or l i 0) there)
+      ];
+      reached = λ positive. elim (cases_lt widest step) [
+        | inl less ↦ subst (IsStepOf l) (let e : step ≡ max widest step = omega (arith, less) in e)
+            (place - 1, omega (arith, at, inside), subst (λ i. get_or l (place - 1) 0 + step ≡ get_or l i 0) (sym at) (omega (arith, rises)))
+        | inr more ↦ subst (IsStepOf l) (let e : widest ≡ max widest step = omega (arith, more) in e) (h.reached (omega (arith, positive, more)))
+      ];
+    }
 
 -- ---- of an element
 

@@ -31,7 +31,7 @@ values-more P i r l now inside read before e n = (there, back)
       | inr more ↦
           let at : v.1 ≡ i = omega (arith, v.2, more) in
           let same : v.0 ≡ r = sym v.4 ∙ ap (λ k. get_or P k v.0) at ∙ get_or_default P i v.0 r inside ∙ read in
-          let value : r.value ≡ n = sym (ap (λ s. s.value) same) ∙ v.5 in
+          let value : r.value ≡ n = sym (ap (λ (s : Relation ℕ). s.value) same) ∙ v.5 in
           subst (λ k. Contains k n) (sym e) (subst (Contains (l ++ r.value ∷ [])) value (Contains-push l r.value))
     ]
 

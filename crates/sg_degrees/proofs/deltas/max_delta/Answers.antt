@@ -9,8 +9,8 @@ use Rattle.sg_degrees.proofs.BettiLemmas.{greatest-within, listed-values}
 use Rattle.sg_degrees.proofs.DeltaLemmas.{max-from_values, max-none}
 use Rattle.sg_degrees.proofs.deltas.max_delta.Goals as goal
 
-pub new-table-requires : goal.new-table-requires
-new-table-requires c =
+pub new-requires : goal.new-requires
+new-requires c =
     let G = c.args.t.now in
     let s = c.generators.ensures.semigroup in
     let betti = listed-values G s.positive c.args.p.now c.in_ok-found.found c.as_slice-values.result.now c.requires.canonical c.in_ok-found.ensures c.as_slice-values.ensures in
