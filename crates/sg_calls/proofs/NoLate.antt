@@ -197,7 +197,9 @@ element_late element.OmegaPrimality G x = refl
 factorizations_late : (c : FactorizationCommand) (args : Items Things) → late_of (factorizations.case_of c args) ≡ []
 factorizations_late (factorization.OfElement f) args = late_fitted (two semigroup_and_integer args) _ (λ p. element_row f p.0 p.1) (λ p. element_late f p.0 p.1)
 factorizations_late factorization.OmegaPrimality args =
-    late_or_else _ _ (late_fitted (one as_semigroup args) _ semigroup_omega_row (λ G. refl)) (late_fitted (two semigroup_and_integer args) _ (λ p. element_row element.OmegaPrimality p.0 p.1) (λ p. refl))
+    late_or_else (of_semigroup (apery_table ∷ []) args semigroup_omega_row) (of_semigroup_and_integer (apery_table ∷ []) args (element_row element.OmegaPrimality))
+    (late_fitted (one as_semigroup args) (λ G. asked_of (apery_table ∷ []) (G ∷ [])) semigroup_omega_row (λ G. refl))
+    (late_fitted (two semigroup_and_integer args) (λ p. asked_of (apery_table ∷ []) (p.0 ∷ [])) (λ p. element_row element.OmegaPrimality p.0 p.1) (λ p. refl))
 
 -- ---- all commands, all operators
 
