@@ -1,8 +1,9 @@
-use Rattle.std.proofs.Common.{◌≡◌, ℕ, List, refl, sym, subst, ◌∙◌}
+use Rattle.std.proofs.Common.{◌≡◌, ℕ, List, [], ◌∷◌, ◌++◌, sym, ap, subst, ◌∙◌}
 use Rattle.std.specs.Prelude.{◌↔◌, Contains, nat_eq}
 use Rattle.std.proofs.lemmas.List.Filters.{dedup_is}
 use Rattle.std.proofs.lemmas.List.Kept.{Contains-dedup_nat, Contains-from_dedup}
 use Rattle.std.proofs.lemmas.Result.{IfOk-weaker}
+use Rattle.sg_nonunique.specs.Presentations.{Relation}
 use Rattle.sg_degrees.specs.Values.{IsValueOf}
 use Rattle.sg_degrees.proofs.ValueLemmas.{values-all, values-more, values-none}
 use Rattle.sg_degrees.proofs.betti.values_of.Goals as goal
@@ -12,8 +13,10 @@ loop-relation-init c = values-none c.as_slice-relation-items.result.now c.new-va
 
 pub loop-relation-preserved : goal.loop-relation-preserved
 loop-relation-preserved c =
-    values-more c.as_slice-relation-items.result.now c.loop-relation.relation-index c.relation-item.result c.loop-relation.values.items c.push.new.self.items c.loop-relation-test.true
-    (sym c.relation-item.is) c.loop-relation.invariant c.in_ok-push.ensures.items
+    let l = c.loop-relation.values.items in
+    let value : c.relation.inside.value ≡ c.relation-item.result.value = ap (λ (s : Relation ℕ). s.value) c.relation.view_is in
+    values-more c.as_slice-relation-items.result.now c.loop-relation.relation-index c.relation-item.result l c.push.new.self.items c.loop-relation-test.true
+    (sym c.relation-item.is) c.loop-relation.invariant (c.in_ok-push.ensures.items ∙ ap (λ v. l ++ v ∷ []) value)
 
 pub returns : goal.returns
 returns c =
