@@ -94,13 +94,13 @@ module _ (seen : Seen) (bytes : List ℕ) (h : HasTaken seen bytes) where
   is-near c p s caused near = near-so c seen (p, s, caused, λ place e. (h.wanted, h.accepted, (bytes, is-taken seen.left h.taken, near place e)))
 
   -- the end of the play of the bytes that were taken, with what is told of its counts
-  ended-so : Cause → Counts → Ended
+  abbrev ended-so : Cause → Counts → Ended
   ended-so c n = record { cause = c; counts = if h.wanted.stats && tells_counts c then Some n else None }
 
   -- it closes the run
   pub closes-so : (c : Cause) (r : Record) (kept : Attributes) (n : Counts) → AreCounts kept n → playing.Comes c (plan_of h.wanted) bytes seen.left kept r
       → (c ≡ cause.ReadFault → Rose seen.faults_before seen.faults_after) → IsClosed (ended-so c n) seen r
-  unfolding reads-input, ended-so
+  unfolding reads-input
   closes-so c r kept n counts (came.early p d ended caused near k w) rose =
       let s : Settles seen p = (bytes ++ h.taken.rest, reads-input, settled-early SCRIPT_LIMIT h.wanted.budget (keep_of h.wanted) bytes h.taken.rest p h.long ended d) in
       record {
