@@ -61,11 +61,7 @@ fn vector_values(alloc: Global, vectors: &[Nats]) -> Result<Vec<Value>, AllocErr
 }
 
 /// Each semigroup as a value, by its old id where it is known.
-fn semigroup_values(
-    alloc: Global,
-    ids: &mut Ids,
-    lists: &[Nats],
-) -> Result<Vec<Value>, AllocError>
+fn semigroup_values(alloc: Global, ids: &mut Ids, lists: &[Nats]) -> Result<Vec<Value>, AllocError>
     requires { All IsLawfulList lists.now }
     ensures plain { IfOk result (λ vs. plain_of_all (named ids.new) vs.items ≡ items_of (map semigroup lists.now)) }
     ensures known { IfOk result (λ vs. AllKnownIn (named ids.new) vs.items) }

@@ -155,7 +155,11 @@ fn of_apery(alloc: Global, store: &mut Store, args: &[Value]) -> Result<Value, C
     ensures asked { Asked result (early_of (facts.case_of Fact.AperyList (plain_of_all (named store.old.ids) args.now))) store.old.attributes store.new.attributes }
 {
     match one_table(alloc, store, args)? {
-        Some(table) => deliver(alloc, &mut store.ids, TableFact::AperyList.tell(alloc, &table)),
+        Some(table) => deliver(
+            alloc,
+            &mut store.ids,
+            TableFact::AperyList.tell(alloc, &table),
+        ),
         None => of_table_and_integer(alloc, store, AperyModulo, args),
     }
 }
@@ -232,7 +236,11 @@ fn of_generated(alloc: Global, store: &mut Store, args: &[Value]) -> Result<Valu
     let Some((given, table)) = list_then_table(alloc, store, &args[0], &args[1])? else {
         return Err(CallFault::Script(Fault::WrongType));
     };
-    deliver(alloc, &mut store.ids, generated(alloc, given.as_slice(), &table))
+    deliver(
+        alloc,
+        &mut store.ids,
+        generated(alloc, given.as_slice(), &table),
+    )
 }
 
 /// An ideal of two.
@@ -248,7 +256,11 @@ fn of_pair(alloc: Global, store: &mut Store, pair: Pair, args: &[Value]) -> Resu
     let Some(((table, one), (_, other))) = two_ideals(alloc, store, &args[0], &args[1])? else {
         return Err(CallFault::Script(Fault::WrongType));
     };
-    deliver(alloc, &mut store.ids, pair_of(alloc, pair, &table, &one, &other))
+    deliver(
+        alloc,
+        &mut store.ids,
+        pair_of(alloc, pair, &table, &one, &other),
+    )
 }
 
 /// The commands on relative ideals.

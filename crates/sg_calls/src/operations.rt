@@ -90,12 +90,20 @@ fn on_ideal_or_list(
     ensures asked { Asked result (early_of (moved_or_generated (plain (named store.old.ids) a.now) (plain (named store.old.ids) b.now))) store.old.attributes store.new.attributes }
 {
     if let Some((by, (table, ideal))) = integer_then_ideal(alloc, store, a, b)? {
-        return deliver(alloc, &mut store.ids, translate_of(alloc, by, &table, &ideal));
+        return deliver(
+            alloc,
+            &mut store.ids,
+            translate_of(alloc, by, &table, &ideal),
+        );
     }
     let Some((given, table)) = list_then_table(alloc, store, a, b)? else {
         return Err(CallFault::Script(Fault::WrongType));
     };
-    deliver(alloc, &mut store.ids, generated(alloc, given.as_slice(), &table))
+    deliver(
+        alloc,
+        &mut store.ids,
+        generated(alloc, given.as_slice(), &table),
+    )
 }
 
 /// The operator `+`: of two integers, of two ideals, of an integer and an ideal, or of a list of integers and a
@@ -156,7 +164,11 @@ fn times(alloc: Global, store: &mut Store, a: &Value, b: &Value) -> Result<Value
     let Some((factor, (table, ideal))) = integer_then_ideal(alloc, store, a, b)? else {
         return Err(CallFault::Script(Fault::WrongType));
     };
-    deliver(alloc, &mut store.ids, multiple_of(alloc, factor, &table, &ideal))
+    deliver(
+        alloc,
+        &mut store.ids,
+        multiple_of(alloc, factor, &table, &ideal),
+    )
 }
 
 /// The integer with the other sign.

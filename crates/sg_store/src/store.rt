@@ -53,6 +53,7 @@ impl Store {
         ensures ok { OnOk result (self.new.attributes ≡ numbers_answered (list_at self.old.ids.semigroups id) self.old.attributes) }
         ensures err { OnErr result (IsAfterNoNumbers self.old.attributes self.new.attributes) }
     {
-        self.attributes.pseudo_frobenius(alloc, self.ids.generators(id))
+        self.attributes
+            .pseudo_frobenius(alloc, self.ids.generators(id))
     }
 }

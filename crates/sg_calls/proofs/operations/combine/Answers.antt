@@ -8,7 +8,7 @@ use Rattle.sg_calls.specs.After.{Asks}
 use Rattle.sg_calls.specs.Operations.{operation, of_integers}
 use Rattle.sg_calls.specs.declared.operator.Operator.TheVariants.{Plus, Less}
 use Rattle.sg_calls.proofs.EarlyLemmas.{all_asked, asked_none}
-use Rattle.sg_calls.proofs.NoLate.{operation_late, of_integers_early}
+use Rattle.sg_calls.proofs.NoLate.{of_integers_alone, of_integers_early, of_integers_late, operation_late}
 use Rattle.sg_calls.proofs.operations.combine.Goals as goal
 
 pub returns-in-Eq-clause-reply : goal.returns-in-Eq-clause-reply
@@ -50,4 +50,18 @@ returns-in-Less-clause-asks c =
     subst (λ op. Asks r (operation n op a b) old new) (sym c.in-Less.is) (all_asked r c.less.new.store.ids (operation n Less a b) old new (operation_late n Less a b) c.less.ensures.reply c.less.ensures.asked)
 
 pub returns-in-Mod-clause-reply : goal.returns-in-Mod-clause-reply
-returns-in-Mod-clause-reply c = ?
+returns-in-Mod-clause-reply c =
+    let ids = c.args.store.now.ids in
+    let a = plain (named ids) c.args.a.now in
+    let b = plain (named ids) c.args.b.now in
+    of_integers_alone c.args.budget c.args.op a b (λ k. Replies c.on_integers.result ids k) c.in-Mod.is (c.on_integers.ensures ids)
+
+pub returns-in-Mod-clause-asks : goal.returns-in-Mod-clause-asks
+returns-in-Mod-clause-asks c =
+    let ids = c.args.store.now.ids in
+    let a = plain (named ids) c.args.a.now in
+    let b = plain (named ids) c.args.b.now in
+    let r = c.on_integers.result in
+    let old = c.args.store.now.attributes in
+    let case = of_integers c.args.op a b in
+    of_integers_alone c.args.budget c.args.op a b (λ k. Asks r k old old) c.in-Mod.is (all_asked r ids case old old (of_integers_late c.args.op a b) (c.on_integers.ensures ids) (asked_none r case old (of_integers_early c.args.op a b)))
