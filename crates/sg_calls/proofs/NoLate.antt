@@ -1,5 +1,5 @@
 -- Rows that ask for nothing late, and cases that ask for nothing at all.
-use Rattle.std.proofs.Common.{◌≡◌, ◌⊎◌, ℕ, ℤ, List, [], ◌∷◌, Option, Some, None, inl, inr, refl, sym, subst}
+use Rattle.std.proofs.Common.{◌≡◌, ℕ, ℤ, List, [], ◌∷◌, Option, Some, None, refl}
 use Rattle.sg_defs.specs.Membership.{IsIntegerMember}
 use Rattle.sg_value.specs.Data.{Items, int}
 use Rattle.sg_value.specs.Plain.{Things}
@@ -197,7 +197,9 @@ element_late element.OmegaPrimality G x = refl
 factorizations_late : (c : FactorizationCommand) (args : Items Things) → late_of (factorizations.case_of c args) ≡ []
 factorizations_late (factorization.OfElement f) args = late_fitted (two semigroup_and_integer args) _ (λ p. element_row f p.0 p.1) (λ p. element_late f p.0 p.1)
 factorizations_late factorization.OmegaPrimality args =
-    late_or_else _ _ (late_fitted (one as_semigroup args) _ semigroup_omega_row (λ G. refl)) (late_fitted (two semigroup_and_integer args) _ (λ p. element_row element.OmegaPrimality p.0 p.1) (λ p. refl))
+    late_or_else (of_semigroup (apery_table ∷ []) args semigroup_omega_row) (of_semigroup_and_integer (apery_table ∷ []) args (element_row element.OmegaPrimality))
+    (late_fitted (one as_semigroup args) (λ G. asked_of (apery_table ∷ []) (G ∷ [])) semigroup_omega_row (λ G. refl))
+    (late_fitted (two semigroup_and_integer args) (λ p. asked_of (apery_table ∷ []) (p.0 ∷ [])) (λ p. element_row element.OmegaPrimality p.0 p.1) (λ p. refl))
 
 -- ---- all commands, all operators
 
@@ -241,7 +243,7 @@ calculation_late _ x y = refl
 pub of_integers_early : (op : Operator) (a b : Plain) → early_of (of_integers op a b) ≡ []
 of_integers_early op a b = early_given (two_integers a b) (λ p. calculation op p.0 p.1) (λ p. calculation_early op p.0 p.1)
 
-pub of_integers_late : (op : Operator) (a b : Plain) → late_of (of_integers op a b) ≡ []
+of_integers_late : (op : Operator) (a b : Plain) → late_of (of_integers op a b) ≡ []
 of_integers_late op a b = late_given (two_integers a b) (λ p. calculation op p.0 p.1) (λ p. calculation_late op p.0 p.1)
 
 pairs_late : (p : _) (a b : Plain) → late_of (on_two_ideals (apery_table ∷ []) a b (pair_row p)) ≡ []
@@ -277,11 +279,3 @@ operation_late n Lt a b = of_integers_late Lt a b
 operation_late n Le a b = of_integers_late Le a b
 operation_late n Gt a b = of_integers_late Gt a b
 operation_late n Ge a b = of_integers_late Ge a b
-
--- operators that take integers alone
-pub of_integers_alone : (n : ℕ) (op : Operator) (a b : Plain) (P : Case → Type 0) → (op ≡ Mod) ⊎ ((op ≡ Lt) ⊎ ((op ≡ Le) ⊎ ((op ≡ Gt) ⊎ (op ≡ Ge)))) → P (of_integers op a b) → P (operation n op a b)
-of_integers_alone n op a b P (inl e) h = subst (λ o. P (operation n o a b)) (sym e) (subst (λ o. P (of_integers o a b)) e h)
-of_integers_alone n op a b P (inr (inl e)) h = subst (λ o. P (operation n o a b)) (sym e) (subst (λ o. P (of_integers o a b)) e h)
-of_integers_alone n op a b P (inr (inr (inl e))) h = subst (λ o. P (operation n o a b)) (sym e) (subst (λ o. P (of_integers o a b)) e h)
-of_integers_alone n op a b P (inr (inr (inr (inl e)))) h = subst (λ o. P (operation n o a b)) (sym e) (subst (λ o. P (of_integers o a b)) e h)
-of_integers_alone n op a b P (inr (inr (inr (inr e)))) h = subst (λ o. P (operation n o a b)) (sym e) (subst (λ o. P (of_integers o a b)) e h)

@@ -14,7 +14,7 @@ ghost use Rattle.sg_calls.specs.Answers.{case_of};
 use crate::asks::{one_list_of_generators, two_tables};
 use crate::command::{Command, Shared, command_named};
 use crate::delivering::deliver;
-use crate::families::{on_facts, on_factorizations, on_ideals, on_lists, on_makers, on_shapes};
+use crate::families::{on_factorizations, on_facts, on_ideals, on_lists, on_makers, on_shapes};
 use sg_rows::{CallFault, Fault, OfGenerators};
 use sg_rows_constructors::intersection;
 use sg_rows_ideals::{IdealCommand, IdealFact, Pair};

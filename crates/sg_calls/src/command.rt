@@ -102,9 +102,7 @@ fn family_command(name: &[u8]) -> Option<Command>
     if let Some(command) = sg_rows_ideals::named(name) {
         return Some(Command::Ideals(command));
     }
-    Some(Command::Factorizations(sg_rows_factorizations::named(
-        name,
-    )?))
+    Some(Command::Factorizations(sg_rows_factorizations::named(name)?))
 }
 
 /// What this name stands for.

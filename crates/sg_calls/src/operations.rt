@@ -204,8 +204,10 @@ pub fn combine(
         Operator::Plus => plus(alloc, store, a, b),
         Operator::Less => less(alloc, store, a, b),
         Operator::Times => times(alloc, store, a, b),
-        Operator::Mod | Operator::Lt | Operator::Le | Operator::Gt | Operator::Ge => on_integers(
-            op, a, b,
-        ),
+        Operator::Mod => on_integers(Operator::Mod, a, b),
+        Operator::Lt => on_integers(Operator::Lt, a, b),
+        Operator::Le => on_integers(Operator::Le, a, b),
+        Operator::Gt => on_integers(Operator::Gt, a, b),
+        Operator::Ge => on_integers(Operator::Ge, a, b),
     }
 }

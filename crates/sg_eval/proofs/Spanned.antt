@@ -20,7 +20,8 @@ use Rattle.sg_rows.proofs.Replying.{delivered, answers_pass}
 use Rattle.sg_rows.proofs.KindLemmas.{as_integer-plain}
 use Rattle.sg_meaning.specs.Entries.{integers_from}
 use Rattle.sg_meaning.specs.Expressions.{ask}
-use Rattle.sg_eval.specs.Outcomes.{Evaluates}
+use Rattle.sg_eval.specs.Outcomes.{RunsOver, Evaluates}
+use Rattle.sg_eval.proofs.Over.{over_told}
 use Rattle.sg_meaning.specs.Queries.{spans, span_of, span_count}
 use Rattle.sg_eval.specs.Ranges.{IsRange, list_of_range, is_range}
 use Rattle.sg_eval.specs.State.{State}
@@ -78,7 +79,14 @@ integer_seen : (names : Named) (v : Value) (o : Option ℤ) → as_integer (cont
 integer_seen names v o is = as_integer-plain (thing_at names) (contents v) ∙ is
 
 refused_as : (a b : Value) (s : State) (e : Fault) → ((names : Named) → IsReply (span_of (plain names a) (plain names b)) (Err e)) → Evaluates list_of_range is_range (Err (Script e)) s s (λ names. ask (spans (plain names a) (plain names b)))
-refused_as a b s e h = record { keeps = keeps_all s.names; variables = refl; parameters = tt; is_known = tt; gives = λ final later. (Err e, h (named final), (refl, refl, refl)) }
+refused_as a b s e h = record {
+  keeps = keeps_all s.names;
+  variables = refl;
+  budget = refl;
+  parameters = tt;
+  is_known = tt;
+  gives = λ final later. over_told s.budget (spans (plain (named final) a) (plain (named final) b)) (Err e) s.variables s.attributes (h (named final), refl);
+}
 
 -- the first is no integer
 pub span_low : (a b : Value) (s : State) → as_integer (contents a) ≡ None → Evaluates list_of_range is_range (Err (Script WrongType)) s s (λ names. ask (spans (plain names a) (plain names b)))
@@ -119,11 +127,11 @@ module _ (a b : Value) (s : State) (x y : ℤ) (is_a : as_integer (contents a) �
       record {
         keeps = keeps_all s.names;
         variables = refl;
+        budget = refl;
         parameters = refl;
         is_known = range;
-        gives = λ final later. (
-          Ok (list (integers_from x k)),
-          span_seen a b x y (named final) (Ok (list (integers_from x k))) is_a is_b (spanned_fine x k (omega (arith, same, light))),
-          (ap (λ m. Ok (list (integers_from x m))) same, refl, refl),
-        );
+        gives = λ final later.
+            let q = spans (plain (named final) a) (plain (named final) b) in
+            subst (λ m. RunsOver s.budget (ask q) s.variables (Ok (list (integers_from x m))) s.variables [] s.attributes s.attributes) (sym same)
+            (over_told s.budget q (Ok (list (integers_from x k))) s.variables s.attributes (span_seen a b x y (named final) (Ok (list (integers_from x k))) is_a is_b (spanned_fine x k (omega (arith, same, light))), refl));
       }

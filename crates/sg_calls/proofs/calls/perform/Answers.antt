@@ -49,14 +49,6 @@ returns-in-Ideals-clause-asks c =
     let r = c.on_ideals.result in
     subst (λ k. Asks r (row n k args) c.args.store.now.attributes c.on_ideals.new.store.attributes) (sym c.in-Ideals.is) (all_asked r c.on_ideals.new.store.ids (row n one args) _ _ (row_late n one args) c.on_ideals.ensures.reply c.on_ideals.ensures.asked)
 
-pub returns-in-Factorizations-clause-asks : goal.returns-in-Factorizations-clause-asks
-returns-in-Factorizations-clause-asks c =
-    let n = c.args.budget in
-    let args = plain_of_all (named c.args.store.now.ids) c.args.args.now in
-    let one = command.Factorizations c.in-Factorizations.command in
-    let r = c.on_factorizations.result in
-    subst (λ k. Asks r (row n k args) c.args.store.now.attributes c.on_factorizations.new.store.attributes) (sym c.in-Factorizations.is) (all_asked r c.on_factorizations.new.store.ids (row n one args) _ _ (row_late n one args) c.on_factorizations.ensures.reply c.on_factorizations.ensures.asked)
-
 pub returns-in-Shared-clause-asks : goal.returns-in-Shared-clause-asks
 returns-in-Shared-clause-asks c =
     let n = c.args.budget in
@@ -64,3 +56,11 @@ returns-in-Shared-clause-asks c =
     let one = command.Shared c.in-Shared.shared in
     let r = c.on_shared.result in
     subst (λ k. Asks r (row n k args) c.args.store.now.attributes c.on_shared.new.store.attributes) (sym c.in-Shared.is) (all_asked r c.on_shared.new.store.ids (row n one args) _ _ (row_late n one args) c.on_shared.ensures.reply c.on_shared.ensures.asked)
+
+pub returns-in-Factorizations-clause-asks : goal.returns-in-Factorizations-clause-asks
+returns-in-Factorizations-clause-asks c =
+    let n = c.args.budget in
+    let args = plain_of_all (named c.args.store.now.ids) c.args.args.now in
+    let one = command.Factorizations c.in-Factorizations.command in
+    let r = c.on_factorizations.result in
+    subst (λ k. Asks r (row n k args) c.args.store.now.attributes c.on_factorizations.new.store.attributes) (sym c.in-Factorizations.is) (all_asked r c.on_factorizations.new.store.ids (row n one args) _ _ (row_late n one args) c.on_factorizations.ensures.reply c.on_factorizations.ensures.asked)

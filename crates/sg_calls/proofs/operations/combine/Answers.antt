@@ -6,9 +6,9 @@ use Rattle.sg_rows.specs.Replies.{Replies}
 use Rattle.sg_rows.proofs.Replying.{replies_truth, decides_not}
 use Rattle.sg_calls.specs.After.{Asks}
 use Rattle.sg_calls.specs.Operations.{operation, of_integers}
-use Rattle.sg_calls.specs.declared.operator.Operator.TheVariants.{Plus, Less}
+use Rattle.sg_calls.specs.declared.operator.Operator.TheVariants.{Plus, Less, Mod, Lt, Le, Gt, Ge}
 use Rattle.sg_calls.proofs.EarlyLemmas.{all_asked, asked_none}
-use Rattle.sg_calls.proofs.NoLate.{of_integers_alone, of_integers_early, of_integers_late, operation_late}
+use Rattle.sg_calls.proofs.NoLate.{operation_late, of_integers_early}
 use Rattle.sg_calls.proofs.operations.combine.Goals as goal
 
 pub returns-in-Eq-clause-reply : goal.returns-in-Eq-clause-reply
@@ -51,17 +51,90 @@ returns-in-Less-clause-asks c =
 
 pub returns-in-Mod-clause-reply : goal.returns-in-Mod-clause-reply
 returns-in-Mod-clause-reply c =
-    let ids = c.args.store.now.ids in
-    let a = plain (named ids) c.args.a.now in
-    let b = plain (named ids) c.args.b.now in
-    of_integers_alone c.args.budget c.args.op a b (λ k. Replies c.on_integers.result ids k) c.in-Mod.is (c.on_integers.ensures ids)
+    let names = named c.args.store.now.ids in
+    let a = plain names c.args.a.now in
+    let b = plain names c.args.b.now in
+    subst (λ op. Replies c.on_integers.result c.args.store.now.ids (operation c.args.budget op a b)) (sym c.in-Mod.is) (c.on_integers.ensures c.args.store.now.ids)
 
 pub returns-in-Mod-clause-asks : goal.returns-in-Mod-clause-asks
 returns-in-Mod-clause-asks c =
-    let ids = c.args.store.now.ids in
-    let a = plain (named ids) c.args.a.now in
-    let b = plain (named ids) c.args.b.now in
+    let n = c.args.budget in
+    let names = named c.args.store.now.ids in
+    let a = plain names c.args.a.now in
+    let b = plain names c.args.b.now in
     let r = c.on_integers.result in
-    let old = c.args.store.now.attributes in
-    let case = of_integers c.args.op a b in
-    of_integers_alone c.args.budget c.args.op a b (λ k. Asks r k old old) c.in-Mod.is (all_asked r ids case old old (of_integers_late c.args.op a b) (c.on_integers.ensures ids) (asked_none r case old (of_integers_early c.args.op a b)))
+    let kept = c.args.store.now.attributes in
+    subst (λ op. Asks r (operation n op a b) kept kept) (sym c.in-Mod.is)
+    (all_asked r c.args.store.now.ids (operation n Mod a b) kept kept (operation_late n Mod a b) (c.on_integers.ensures c.args.store.now.ids) (asked_none r (of_integers Mod a b) kept (of_integers_early Mod a b)))
+
+pub returns-in-Lt-clause-reply : goal.returns-in-Lt-clause-reply
+returns-in-Lt-clause-reply c =
+    let names = named c.args.store.now.ids in
+    let a = plain names c.args.a.now in
+    let b = plain names c.args.b.now in
+    subst (λ op. Replies c.on_integers-in-Lt.result c.args.store.now.ids (operation c.args.budget op a b)) (sym c.in-Lt.is) (c.on_integers-in-Lt.ensures c.args.store.now.ids)
+
+pub returns-in-Lt-clause-asks : goal.returns-in-Lt-clause-asks
+returns-in-Lt-clause-asks c =
+    let n = c.args.budget in
+    let names = named c.args.store.now.ids in
+    let a = plain names c.args.a.now in
+    let b = plain names c.args.b.now in
+    let r = c.on_integers-in-Lt.result in
+    let kept = c.args.store.now.attributes in
+    subst (λ op. Asks r (operation n op a b) kept kept) (sym c.in-Lt.is)
+    (all_asked r c.args.store.now.ids (operation n Lt a b) kept kept (operation_late n Lt a b) (c.on_integers-in-Lt.ensures c.args.store.now.ids) (asked_none r (of_integers Lt a b) kept (of_integers_early Lt a b)))
+
+pub returns-in-Le-clause-reply : goal.returns-in-Le-clause-reply
+returns-in-Le-clause-reply c =
+    let names = named c.args.store.now.ids in
+    let a = plain names c.args.a.now in
+    let b = plain names c.args.b.now in
+    subst (λ op. Replies c.on_integers-in-Le.result c.args.store.now.ids (operation c.args.budget op a b)) (sym c.in-Le.is) (c.on_integers-in-Le.ensures c.args.store.now.ids)
+
+pub returns-in-Le-clause-asks : goal.returns-in-Le-clause-asks
+returns-in-Le-clause-asks c =
+    let n = c.args.budget in
+    let names = named c.args.store.now.ids in
+    let a = plain names c.args.a.now in
+    let b = plain names c.args.b.now in
+    let r = c.on_integers-in-Le.result in
+    let kept = c.args.store.now.attributes in
+    subst (λ op. Asks r (operation n op a b) kept kept) (sym c.in-Le.is)
+    (all_asked r c.args.store.now.ids (operation n Le a b) kept kept (operation_late n Le a b) (c.on_integers-in-Le.ensures c.args.store.now.ids) (asked_none r (of_integers Le a b) kept (of_integers_early Le a b)))
+
+pub returns-in-Gt-clause-reply : goal.returns-in-Gt-clause-reply
+returns-in-Gt-clause-reply c =
+    let names = named c.args.store.now.ids in
+    let a = plain names c.args.a.now in
+    let b = plain names c.args.b.now in
+    subst (λ op. Replies c.on_integers-in-Gt.result c.args.store.now.ids (operation c.args.budget op a b)) (sym c.in-Gt.is) (c.on_integers-in-Gt.ensures c.args.store.now.ids)
+
+pub returns-in-Gt-clause-asks : goal.returns-in-Gt-clause-asks
+returns-in-Gt-clause-asks c =
+    let n = c.args.budget in
+    let names = named c.args.store.now.ids in
+    let a = plain names c.args.a.now in
+    let b = plain names c.args.b.now in
+    let r = c.on_integers-in-Gt.result in
+    let kept = c.args.store.now.attributes in
+    subst (λ op. Asks r (operation n op a b) kept kept) (sym c.in-Gt.is)
+    (all_asked r c.args.store.now.ids (operation n Gt a b) kept kept (operation_late n Gt a b) (c.on_integers-in-Gt.ensures c.args.store.now.ids) (asked_none r (of_integers Gt a b) kept (of_integers_early Gt a b)))
+
+pub returns-in-Ge-clause-reply : goal.returns-in-Ge-clause-reply
+returns-in-Ge-clause-reply c =
+    let names = named c.args.store.now.ids in
+    let a = plain names c.args.a.now in
+    let b = plain names c.args.b.now in
+    subst (λ op. Replies c.on_integers-in-Ge.result c.args.store.now.ids (operation c.args.budget op a b)) (sym c.in-Ge.is) (c.on_integers-in-Ge.ensures c.args.store.now.ids)
+
+pub returns-in-Ge-clause-asks : goal.returns-in-Ge-clause-asks
+returns-in-Ge-clause-asks c =
+    let n = c.args.budget in
+    let names = named c.args.store.now.ids in
+    let a = plain names c.args.a.now in
+    let b = plain names c.args.b.now in
+    let r = c.on_integers-in-Ge.result in
+    let kept = c.args.store.now.attributes in
+    subst (λ op. Asks r (operation n op a b) kept kept) (sym c.in-Ge.is)
+    (all_asked r c.args.store.now.ids (operation n Ge a b) kept kept (operation_late n Ge a b) (c.on_integers-in-Ge.ensures c.args.store.now.ids) (asked_none r (of_integers Ge a b) kept (of_integers_early Ge a b)))

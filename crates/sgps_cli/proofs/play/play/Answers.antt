@@ -1,7 +1,8 @@
 use Rattle.std.proofs.Common.{refl, ◌∙◌, arith}
 use Rattle.sg_eval.specs.Machine.{state_of}
 use Rattle.sgps_cli.specs.Playing.{Begun}
-use Rattle.sgps_cli.proofs.Turning.{reached-at-first, without-window}
+use Rattle.sg_store.specs.Attributes.{nothing_asked}
+use Rattle.sgps_cli.proofs.Turning.{reached-first, without-memory}
 use Rattle.sgps_cli.proofs.Measured.{counted-fits}
 use Rattle.sgps_cli.proofs.play.play.Goals as goal
 
@@ -10,13 +11,13 @@ take_turn-requires-clause-fits g c = counted-fits c.loop-now.invariant.reached
 
 pub returns-in-Err-clause-plays : goal.returns-in-Err-clause-plays
 returns-in-Err-clause-plays g c =
-    without-window (record { keep = c.args.keep; all = g.S.Source.left c.args.source.now; sinks = record { on_out = g.W.Sink.taken c.args.out.now; on_err = g.E.Sink.taken c.args.err.now } })
+    (nothing_asked 0, c.unplayed.ensures.counts, without-memory (record { plan = c.args.plan; all = g.S.Source.left c.args.source.now; sinks = record { on_out = g.W.Sink.taken c.args.out.now; on_err = g.E.Sink.taken c.args.err.now } }) (nothing_asked 0))
 
 pub loop-now-init : goal.loop-now-init
 loop-now-init g c =
-    let b : Begun = record { keep = c.args.keep; all = g.S.Source.left c.args.source.now; sinks = record { on_out = g.W.Sink.taken c.args.out.now; on_err = g.E.Sink.taken c.args.err.now } } in
+    let b : Begun = record { plan = c.args.plan; all = g.S.Source.left c.args.source.now; sinks = record { on_out = g.W.Sink.taken c.args.out.now; on_err = g.E.Sink.taken c.args.err.now } } in
     record {
-      reached = reached-at-first b c.in-Ok.window (state_of c.new-machine.result).variables c.in-Ok.ensures c.new-machine.ensures.variables;
+      reached = reached-first b c.in-Ok.window (state_of c.new-machine.result) c.in-Ok.ensures c.new-machine.ensures.variables c.new-machine.ensures.attributes c.new-machine.ensures.budget;
       begun = c.requires;
       source_later = omega arith;
       out_later = omega arith;
@@ -30,7 +31,7 @@ loop-now-init g c =
 
 pub loop-now-preserved : goal.loop-now-preserved
 loop-now-preserved g c =
-    let b : Begun = record { keep = c.args.keep; all = g.S.Source.left c.args.source.now; sinks = record { on_out = g.W.Sink.taken c.args.out.now; on_err = g.E.Sink.taken c.args.err.now } } in
+    let b : Begun = record { plan = c.args.plan; all = g.S.Source.left c.args.source.now; sinks = record { on_out = g.W.Sink.taken c.args.out.now; on_err = g.E.Sink.taken c.args.err.now } } in
     let i = c.loop-now.invariant in
     let e = c.in-Goes.ensures in
     record {
@@ -48,4 +49,4 @@ loop-now-preserved g c =
 
 pub returns-in-Stops-clause-plays : goal.returns-in-Stops-clause-plays
 returns-in-Stops-clause-plays g c =
-    c.in-Stops.ensures.turns (record { keep = c.args.keep; all = g.S.Source.left c.args.source.now; sinks = record { on_out = g.W.Sink.taken c.args.out.now; on_err = g.E.Sink.taken c.args.err.now } }) c.loop-now.invariant.reached
+    c.in-Stops.ensures.turns (record { plan = c.args.plan; all = g.S.Source.left c.args.source.now; sinks = record { on_out = g.W.Sink.taken c.args.out.now; on_err = g.E.Sink.taken c.args.err.now } }) c.loop-now.invariant.reached

@@ -5,35 +5,43 @@ use Rattle.sgps_cli.specs.Playing as playing
 use Rattle.sgps_cli.proofs.Written.{wrote-none}
 use Rattle.sgps_cli.proofs.Beginning.{of-ok, of-err}
 use Rattle.sgps_cli.proofs.Settling.{AreTaken, are-taken, is-taken}
-use Rattle.sgps_cli.proofs.Closing.{HasTaken, closes-so, closed-unbegun}
+use Rattle.sgps_cli.specs.Ends.{IsClosed}
+use Rattle.sgps_cli.proofs.Closing.{HasTaken, closes-so, closed-unbegun, same-ended}
 use Rattle.sgps_cli.proofs.Endings.{rose-later}
 use Rattle.sgps_cli.proofs.settle.play_input.Goals as goal
 
 pub returns-clause-ends : goal.returns-clause-ends
 returns-clause-ends g c =
-    let p = c.play.ensures.plays in
-    let taken : AreTaken (g.S.Source.inputs c.args.source.now) (wanted_of c.args.settings).file (g.S.Source.left c.play.new.source) p.bytes =
+    let plays = c.play-finish.ensures.plays in
+    let p = plays.2 in
+    let taken : AreTaken (g.S.Source.inputs c.args.source.now) (wanted_of c.args.settings).file (g.S.Source.left c.play-finish.new.source) p.bytes =
     are-taken _ _ (g.S.Source.left c.begin.new.self) _ p.bytes
     (of-ok c.begin.result (sym c.is_err.ensures.value ∙ c.if-is_err.false) c.begin.ensures.whole)
-    (g.met.S.Source.tells_both c.begin.new.self ∙ ap is_some c.begin.ensures.inputs) p.told in (
+    (g.met.S.Source.tells_both c.begin.new.self ∙ ap is_some c.begin.ensures.inputs) p.told in
+    let has : HasTaken _ p.bytes = record { wanted = wanted_of c.args.settings; accepted = refl; begun = c.play-finish.ensures.begun; taken = taken; long = p.within } in (
       p.written,
       p.wrote,
-      closes-so _ p.bytes (record { wanted = wanted_of c.args.settings; accepted = refl; begun = c.play.ensures.begun; taken = taken; long = p.within }) c.play.result p.written
-          (subst (λ k. playing.Comes c.play.result k p.bytes (g.S.Source.left c.play.new.source) p.written) c.keep_of.ensures p.comes)
-          (λ e. rose-later _ _ _ c.begin.ensures.cause.later (c.play.ensures.read_fault e)),
+      subst (λ e. IsClosed e _ p.written) (same-ended c.told.result _ _ c.told.ensures.cause c.told.ensures.counts)
+          (closes-so _ p.bytes has c.play-finish.result.cause p.written plays.0 c.play-finish.result.counts plays.1
+          (subst (λ k. playing.Comes c.play-finish.result.cause k p.bytes (g.S.Source.left c.play-finish.new.source) plays.0 p.written) c.plan_of.ensures p.comes)
+          (λ e. rose-later _ _ _ c.begin.ensures.cause.later (c.play-finish.ensures.read_fault e))),
     )
 
 pub returns-then-is_err-clause-ends : goal.returns-then-is_err-clause-ends
 returns-then-is_err-clause-ends g c =
     let is_error = sym c.is_err.ensures.value ∙ c.if-is_err.true in
-    let failed = of-err c.begin.result is_error c.begin.ensures.failed in
-    ([], wrote-none _, closed-unbegun _ failed.0 (of-err c.begin.result is_error c.begin.ensures.cause.failed, inl (((wanted_of c.args.settings, refl), failed.0), refl)))
+    let failed = of-err c.begin.result is_error c.begin.ensures.failed in (
+      [],
+      wrote-none _,
+      subst (λ e. IsClosed e _ []) (same-ended c.bare.result _ _ c.bare.ensures.cause c.bare.ensures.counts)
+          (closed-unbegun _ failed.0 (of-err c.begin.result is_error c.begin.ensures.cause.failed, inl (((wanted_of c.args.settings, refl), failed.0), refl), refl)),
+    )
 
 pub returns-clause-taken : goal.returns-clause-taken
 returns-clause-taken g c = λ b.
-    let p = c.play.ensures.plays in (
+    let p = c.play-finish.ensures.plays.2 in (
       p.bytes,
-      is-taken _ (are-taken _ (wanted_of c.args.settings).file (g.S.Source.left c.begin.new.self) (g.S.Source.left c.play.new.source) p.bytes
+      is-taken _ (are-taken _ (wanted_of c.args.settings).file (g.S.Source.left c.begin.new.self) (g.S.Source.left c.play-finish.new.source) p.bytes
           (of-ok c.begin.result (sym c.is_err.ensures.value ∙ c.if-is_err.false) c.begin.ensures.whole)
           (g.met.S.Source.tells_both c.begin.new.self ∙ ap is_some c.begin.ensures.inputs) p.told),
       p.within,
