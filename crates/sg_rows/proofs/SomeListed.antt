@@ -7,7 +7,7 @@ use Rattle.sg_apery.specs.Limits.{SPAN_LIMIT}
 use Rattle.sg_laws_invariants.proofs.SpansExist.{wide-decided}
 use Rattle.sg_value.specs.Data.{int, semigroup, items_of}
 use Rattle.sg_rows.specs.Order.{Plain}
-use Rattle.sg_rows.specs.Values.{integer_list, natural_list, semigroup_list, vector_list, integers_with, naturals_with, semigroups_with, vectors_with}
+use Rattle.sg_rows.specs.Values.{integer_list, natural_list, semigroup_list, vector_list, vector_lists, integers_with, naturals_with, semigroups_with, vectors_with, vector_lists_with}
 use Rattle.sg_lawful.specs.Spans.{IsWide}
 use Rattle.sg_rows.specs.Limits.{spanned}
 use Rattle.sg_lawful.specs.Lawful.{IsLawfulList}
@@ -30,6 +30,10 @@ vector_list_lawful : (vs : List (List ℕ)) → AreLawful (items_of (map natural
 vector_list_lawful [] = tt
 vector_list_lawful (ns ∷ vs) = (natural_list_lawful ns, vector_list_lawful vs)
 
+vector_lists_lawful : (ls : List (List (List ℕ))) → AreLawful (items_of (map vector_list ls))
+vector_lists_lawful [] = tt
+vector_lists_lawful (vs ∷ ls) = (vector_list_lawful vs, vector_lists_lawful ls)
+
 pub integers_some : (P : List ℤ → Type 0) → (zs : List ℤ) × P zs → HasLawful (integers_with P)
 integers_some P h = (integer_list h.0, (h.0, refl, h.1), integer_list_lawful h.0)
 
@@ -38,6 +42,9 @@ naturals_some P h = (natural_list h.0, (h.0, refl, h.1), natural_list_lawful h.0
 
 pub vectors_some : (P : List (List ℕ) → Type 0) → (vs : List (List ℕ)) × P vs → HasLawful (vectors_with P)
 vectors_some P h = (vector_list h.0, (h.0, refl, h.1), vector_list_lawful h.0)
+
+pub vector_lists_some : (P : List (List (List ℕ)) → Type 0) → (ls : List (List (List ℕ))) × P ls → HasLawful (vector_lists_with P)
+vector_lists_some P h = (vector_lists h.0, (h.0, refl, h.1), vector_lists_lawful h.0)
 
 pub natural_list_some : (ns : List ℕ) → HasLawful (λ d. d ≡ natural_list ns)
 natural_list_some ns = (natural_list ns, refl, natural_list_lawful ns)

@@ -51,6 +51,15 @@ abbrev pub weight_of_vectors : List (List ℕ) → ℕ
 weight_of_vectors [] = 0
 weight_of_vectors (ns ∷ vs) = suc (length ns) + weight_of_vectors vs
 
+-- these lists of vectors as a list
+abbrev pub vector_lists : {H : Kind → Type 0} → List (List (List ℕ)) → Data H
+vector_lists ls = list (items_of (map vector_list ls))
+
+-- the weight of these lists of vectors in a list: each weighs 1 more than its vectors
+abbrev pub weight_of_lists : List (List (List ℕ)) → ℕ
+weight_of_lists [] = 0
+weight_of_lists (vs ∷ ls) = suc (weight_of_vectors vs) + weight_of_lists ls
+
 -- what stands for these semigroups, as a list
 abbrev pub semigroup_list : {H : Kind → Type 0} → List (H semigroups) → Data H
 semigroup_list hs = list (items_of (map semigroup hs))
@@ -66,6 +75,10 @@ naturals_with P d = (ns : List ℕ) × (d ≡ natural_list ns) × P ns
 -- a list of vectors, of which P holds
 abbrev pub vectors_with : (List (List ℕ) → Type 0) → Plain → Type 0
 vectors_with P d = (vs : List (List ℕ)) × (d ≡ vector_list vs) × P vs
+
+-- a list of lists of vectors, of which P holds
+abbrev pub vector_lists_with : (List (List (List ℕ)) → Type 0) → Plain → Type 0
+vector_lists_with P d = (ls : List (List (List ℕ))) × (d ≡ vector_lists ls) × P ls
 
 -- a list of semigroups by their minimal lists, of which P holds
 abbrev pub semigroups_with : (List (List ℕ) → Type 0) → Plain → Type 0

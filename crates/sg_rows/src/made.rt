@@ -7,7 +7,7 @@ ghost use Rattle.sg_rows.specs.Values.{answers};
 ghost use Rattle.sg_value.specs.Data.{int};
 
 use crate::fault::{CallFault, Fault};
-use sg_nat::{Ints, Nats, Rows};
+use sg_nat::{Ints, ListOf, Nats, Rows};
 
 /// What a row made, before it is in any store. Contracts see it as the plain value that it is (`specs/Made`).
 #[derive(Drop)]
@@ -24,6 +24,8 @@ pub enum Made {
     Naturals(Nats),
     /// A list of vectors of naturals below 2^63.
     Vectors(Rows),
+    /// A list of lists of vectors of naturals below 2^63.
+    VectorLists(ListOf<Rows>),
     /// A semigroup, by its minimal generators.
     Semigroup(Nats),
     /// A list of semigroups, each by its minimal generators.

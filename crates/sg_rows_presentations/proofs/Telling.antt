@@ -1,0 +1,64 @@
+-- What functions told of rows on presentations.
+use Rattle.std.proofs.Common.{◌≡◌, ◌*◌, ◌<◌, ◌≤◌, ℕ, List, length, get_or, map, Ok, Err, inl, inr, refl, arith}
+use Rattle.std.specs.Prelude.{All}
+use Rattle.sg_defs.specs.Membership.{IsNumericalSemigroup}
+use Rattle.sg_classes.specs.Fit.{IsNarrow, IsSpan}
+use Rattle.sg_classes.specs.declared.limits.TheConstants.{NARROW_GENERATORS, NARROW_PRODUCT}
+use Rattle.sg_betti.specs.Limits.{IsPresentable}
+use Rattle.sg_betti.specs.declared.limits.TheConstants.{PRESENTATION_SPAN_LIMIT}
+use Rattle.sg_laws_invariants.specs.Decided.{Decided}
+use Rattle.sg_laws_invariants.proofs.Decisions.{decided-and, decided-le, decided-same}
+use Rattle.sg_laws_invariants.proofs.SpansExist.{span-exists, span-one}
+use Rattle.sg_rows.specs.Made.{Tells, AreWithinBits}
+use Rattle.sg_rows.specs.Order.{Passes, Refuses, IsReplyOf}
+use Rattle.sg_rows.specs.declared.fault.Fault.TheVariants.{TooLarge}
+use Rattle.sg_rows.specs.declared.made.Made.TheVariants.{Naturals, VectorLists}
+use Rattle.sg_rows_presentations.specs.Rows.{AreBettiElements, AreSidesOf, presentation_row}
+use Rattle.sg_rows_presentations.specs.declared.fact.PresentationFact.{PresentationFact}
+use Rattle.sg_rows_presentations.specs.declared.fact.PresentationFact.TheVariants.{BettiElements, MinimalPresentation}
+
+no : ⊥ → ⊥
+no h = h
+
+-- ---- whether a presentation is written out is decided
+
+narrow-decided : (G : List ℕ) → Decided (IsNarrow G)
+narrow-decided G =
+    let few = length G ≤ NARROW_GENERATORS in
+    let small = get_or G 0 0 * length G ≤ NARROW_PRODUCT in
+    decided-same (few × small) (IsNarrow G) (λ p. record { generators = p.0; product = p.1 }) (λ n. (n.generators, n.product))
+    (decided-and few small (decided-le (length G) NARROW_GENERATORS) (decided-le (get_or G 0 0 * length G) NARROW_PRODUCT))
+
+pub presentable-decided : (G : List ℕ) → IsNumericalSemigroup G → Decided (IsPresentable G)
+presentable-decided G s =
+    let r = span-exists G s in
+    let short = r.0 ≤ PRESENTATION_SPAN_LIMIT in
+    decided-same (IsNarrow G × short) (IsPresentable G) (λ p. record { narrow = p.0; span = r.0; is_span = r.1; short = p.1 })
+    (λ h. (h.narrow, (let e = span-one G h.span r.0 h.is_span r.1 in omega (arith, e, h.short))))
+    (decided-and (IsNarrow G) short (narrow-decided G) (decided-le r.0 PRESENTATION_SPAN_LIMIT))
+
+-- ---- the refusal
+
+pub passes : (f : PresentationFact) (G : List ℕ) → IsPresentable G → Passes (presentation_row f G)
+passes BettiElements G h = record { size = no; bad = no; limit = λ n. n h; many = no; budget = no }
+passes MinimalPresentation G h = record { size = no; bad = no; limit = λ n. n h; many = no; budget = no }
+
+pub refuses : (f : PresentationFact) (G : List ℕ) → ¬ IsPresentable G → Refuses (presentation_row f G) × IsReplyOf (presentation_row f G) (Err TooLarge)
+refuses BettiElements G n = (inr (inr (inl n)), inr (no, inr (no, inl (n, refl))))
+refuses MinimalPresentation G n = (inr (inr (inl n)), inr (no, inr (no, inl (n, refl))))
+
+-- a row that does not refuse is of a semigroup whose presentation is written out
+pub not_refused : (f : PresentationFact) (G : List ℕ) → IsNumericalSemigroup G → Passes (presentation_row f G) → IsPresentable G
+not_refused f G s p = elim (presentable-decided G s) [ inl h ↦ h | inr n ↦ absurd (by f p n) ]
+  where
+    by : (f : PresentationFact) → Passes (presentation_row f G) → ¬ IsPresentable G → ⊥
+    by BettiElements p n = p.limit n
+    by MinimalPresentation p n = p.limit n
+
+-- ---- the value
+
+pub tells_elements : (G ns : List ℕ) → Passes (presentation_row BettiElements G) → AreWithinBits ns → AreBettiElements G ns → Tells (Ok (Naturals ns)) (presentation_row BettiElements G)
+tells_elements G ns p small h = (record { passes = p; value = (ns, refl, h) }, small)
+
+pub tells_sides : (G : List ℕ) (ls : List (List (List ℕ))) → Passes (presentation_row MinimalPresentation G) → All (All AreWithinBits) ls → AreSidesOf G ls → Tells (Ok (VectorLists ls)) (presentation_row MinimalPresentation G)
+tells_sides G ls p small h = (record { passes = p; value = (ls, refl, h) }, small)
