@@ -13,11 +13,12 @@ use Rattle.sg_rows_invariants.specs.declared.fact.GeneratorsFact.TheVariants as 
 use Rattle.sg_rows_symmetry.specs.Shapes as shapes
 use Rattle.sg_rows_ideals.specs.Ideals as ideals
 use Rattle.sg_rows_factorizations.specs.Commands as factorizations
+use Rattle.sg_rows_presentations.specs.Commands as presentations
 use Rattle.sg_rows_ideals.specs.declared.facts.IdealFact.TheVariants.{Generators}
 use Rattle.sg_rows_ideals.specs.declared.ideals.IdealCommand.TheVariants.{OfIdeal, OfTwoIdeals}
 use Rattle.sg_rows_ideals.specs.declared.pairs.Pair.TheVariants as pair
 use Rattle.sg_calls.specs.declared.command.Command.{Command}
-use Rattle.sg_calls.specs.declared.command.Command.TheVariants.{Lists, Makers, Facts, Shapes, Ideals, Factorizations}
+use Rattle.sg_calls.specs.declared.command.Command.TheVariants.{Lists, Makers, Facts, Shapes, Ideals, Factorizations, Presentations}
 use Rattle.sg_calls.specs.declared.command.Command.TheVariants as command
 use Rattle.sg_calls.specs.declared.command.Shared.{Shared}
 use Rattle.sg_calls.specs.declared.command.Shared.TheVariants.{Intersection, MinimalGenerators}
@@ -35,4 +36,5 @@ row budget (Facts c) args = facts.case_of c args
 row budget (Shapes c) args = shapes.case_of c args
 row budget (Ideals c) args = ideals.case_of c args
 row budget (Factorizations c) args = factorizations.case_of c args
+row budget (Presentations f) args = presentations.case_of f args
 row budget (command.Shared s) args = shared_case s args

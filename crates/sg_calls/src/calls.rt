@@ -15,6 +15,7 @@ use crate::asks::{one_list_of_generators, two_tables};
 use crate::command::{Command, Shared, command_named};
 use crate::delivering::deliver;
 use crate::families::{on_factorizations, on_facts, on_ideals, on_lists, on_makers, on_shapes};
+use crate::presentations::on_presentations;
 use sg_rows::{CallFault, Fault, OfGenerators};
 use sg_rows_constructors::intersection;
 use sg_rows_ideals::{IdealCommand, IdealFact, Pair};
@@ -85,8 +86,8 @@ fn on_shared(
 }
 
 /// What the row of a command answers, within a budget of steps that no row counts yet. Known ids go on to stand for what
-/// they stood for, and each id in the value is known. What the row asks for is asked for in its order, also where the
-/// row refuses.
+/// they stood for, and each id in the value is known. What the row asks for at once is asked for in its order, also where
+/// the row refuses, and what it asks for late once it does not.
 pub fn perform(
     alloc: Global,
     store: &mut Store,
@@ -107,13 +108,14 @@ pub fn perform(
         Command::Shapes(shape) => on_shapes(alloc, store, shape, args),
         Command::Ideals(command) => on_ideals(alloc, store, command, args),
         Command::Factorizations(command) => on_factorizations(alloc, store, command, args),
+        Command::Presentations(fact) => on_presentations(alloc, store, fact, args),
         Command::Shared(shared) => on_shared(alloc, store, shared, args),
     }
 }
 
 /// What a command answers: its value, or the first refusal that comes once its name and the number of its arguments
 /// are right. Known ids go on to stand for what they stood for, and each id in the value is known. What the row asks for
-/// is asked for in its order, also where the row refuses.
+/// at once is asked for in its order, also where the row refuses, and what it asks for late once it does not.
 pub fn answer(
     alloc: Global,
     store: &mut Store,

@@ -9,6 +9,7 @@ use sg_rows_factorizations::FactorizationCommand;
 use sg_rows_ideals::IdealCommand;
 use sg_rows_invariants::Fact;
 use sg_rows_lists::ListCommand;
+use sg_rows_presentations::PresentationFact;
 use sg_rows_symmetry::Shape;
 
 /// A command, by the family that it is of.
@@ -26,6 +27,8 @@ pub enum Command {
     Ideals(IdealCommand),
     /// On factorizations of elements.
     Factorizations(FactorizationCommand),
+    /// On the minimal presentation of a numerical semigroup.
+    Presentations(PresentationFact),
     /// On semigroups or on ideals.
     Shared(Shared),
 }
@@ -102,7 +105,10 @@ fn family_command(name: &[u8]) -> Option<Command>
     if let Some(command) = sg_rows_ideals::named(name) {
         return Some(Command::Ideals(command));
     }
-    Some(Command::Factorizations(sg_rows_factorizations::named(name)?))
+    if let Some(command) = sg_rows_factorizations::named(name) {
+        return Some(Command::Factorizations(command));
+    }
+    Some(Command::Presentations(sg_rows_presentations::named(name)?))
 }
 
 /// What this name stands for.
@@ -136,6 +142,7 @@ pub fn takes(command: Command, count: usize) -> bool
         Command::Shapes(shape) => sg_rows_symmetry::takes(shape, count),
         Command::Ideals(command) => sg_rows_ideals::takes(command, count),
         Command::Factorizations(command) => sg_rows_factorizations::takes(command, count),
+        Command::Presentations(fact) => sg_rows_presentations::takes(fact, count),
         Command::Shared(Shared::Intersection) => count == 2,
         Command::Shared(Shared::MinimalGenerators) => count == 1,
     }

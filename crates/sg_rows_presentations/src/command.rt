@@ -9,7 +9,10 @@ use sg_rows::{Named, find};
 /// The names of all commands of this crate.
 static NAMES: [Named<PresentationFact>; 2] = [
     Named(b"BettiElements", PresentationFact::BettiElements),
-    Named(b"MinimalPresentation", PresentationFact::MinimalPresentation),
+    Named(
+        b"MinimalPresentation",
+        PresentationFact::MinimalPresentation,
+    ),
 ];
 
 /// The command of this name.

@@ -60,18 +60,13 @@ impl Store {
 
     /// The canonical minimal presentation of a known semigroup. It is made of any; a row refuses those that are too large
     /// before it asks.
-    pub fn presentation(
-        &mut self,
-        alloc: Global,
-        id: SemId,
-    ) -> Result<Rc<Presentation>, AllocError>
+    pub fn presentation(&mut self, alloc: Global, id: SemId) -> Result<Rc<Presentation>, AllocError>
         requires { IsSome (slice_get self.old.ids.semigroups id) }
         ensures presentation { IfOk result (λ relations. IsPresentationOf (list_at self.old.ids.semigroups id) relations.value) }
         ensures ids { self.new.ids ≡ self.old.ids }
         ensures ok { OnOk result (self.new.attributes ≡ presentation_answered (list_at self.old.ids.semigroups id) self.old.attributes) }
         ensures err { OnErr result (IsAfterNoPresentation self.old.attributes self.new.attributes) }
     {
-        self.attributes
-            .presentation(alloc, self.ids.generators(id))
+        self.attributes.presentation(alloc, self.ids.generators(id))
     }
 }

@@ -16,7 +16,7 @@ loop-relation-preserved c =
     let l = c.loop-relation.values.items in
     let r = c.relation-item.result in
     let value : c.relation.inside.value ≡ value_of r = ap value_of c.relation.view_is in
-    let more : map value_of (take (i + 1) P) ≡ map value_of (take i P) ++ value_of r ∷ [] = ap (map value_of) (take_more P i r c.loop-relation-test.true c.relation-item.is) ∙ map-append value_of (take i P) (r ∷ []) in
+    let more : map value_of (take (i + 1) P) ≡ map value_of (take i P) ++ value_of r ∷ [] = ap (map value_of) (take_more P i r c.loop-relation-test.true) ∙ (ap (λ s. map value_of (take i P ++ s ∷ [])) (sym c.relation-item.is) ∙ map-append value_of (take i P) (r ∷ [])) in
     c.in_ok-push.ensures.items ∙ (ap (λ v. l ++ v ∷ []) value ∙ (ap (λ k. k ++ value_of r ∷ []) c.loop-relation.invariant ∙ sym more))
 
 pub returns : goal.returns
