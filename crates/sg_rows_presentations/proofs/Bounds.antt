@@ -1,6 +1,6 @@
 -- The values of the canonical relations are the Betti elements, and nothing in a presentation is past the span.
-use Rattle.std.proofs.Common.{◌≡◌, ℕ, ◌+◌, ◌-◌, ◌%◌, ◌<◌, ◌≤◌, ◌^◌, List, length, get_or, map, sum, refl, sym, subst, inl, inr, arith}
-use Rattle.std.specs.Prelude.{◌⊎◌, ◌↔◌, ℤ, pos, negsuc, ◌+ℤ◌, All, Contains}
+use Rattle.std.proofs.Common.{◌≡◌, ℕ, ◌+◌, ◌-◌, ◌%◌, ◌<◌, ◌≤◌, ◌^◌, List, length, get_or, map, refl, sym, subst, inl, inr, arith}
+use Rattle.std.specs.Prelude.{◌↔◌, ℤ, pos, negsuc, ◌+ℤ◌, All}
 use Rattle.std.specs.List.Sorted.{IsStrictlyIncreasing}
 use Rattle.std.proofs.lemmas.Bool.{cases_lt}
 use Rattle.std.proofs.lemmas.Int.{ints}
@@ -26,7 +26,7 @@ use Rattle.sg_factor.proofs.BoundLemmas.{value-at_least}
 use Rattle.sg_betti.specs.Limits.{IsPresentable}
 use Rattle.sg_rows.specs.Made.{AreWithinBits}
 use Rattle.sg_rows_presentations.specs.Read.{IsValueOf, sides}
-use Rattle.sg_rows_presentations.specs.Rows.{AreBettiElements, AreSidesOf}
+use Rattle.sg_rows_presentations.specs.Rows.{AreBettiElements}
 use Rattle.sg_rows_presentations.proofs.Reading.{two-cases}
 
 module _ (G : List ℕ) (positive : All (λ g. 1 ≤ g) G) where

@@ -1,14 +1,15 @@
 -- What functions told of rows on presentations.
-use Rattle.std.proofs.Common.{◌≡◌, ◌*◌, ◌<◌, ◌≤◌, ℕ, List, length, get_or, map, Ok, Err, inl, inr, refl, arith}
+use Rattle.std.proofs.Common.{◌*◌, ◌≤◌, ℕ, List, length, get_or, Ok, Err, inl, inr, refl, arith, [], ◌∷◌, ◌≡◌}
 use Rattle.std.specs.Prelude.{All}
 use Rattle.sg_defs.specs.Membership.{IsNumericalSemigroup}
-use Rattle.sg_classes.specs.Fit.{IsNarrow, IsSpan}
+use Rattle.sg_classes.specs.Fit.{IsNarrow}
 use Rattle.sg_classes.specs.declared.limits.TheConstants.{NARROW_GENERATORS, NARROW_PRODUCT}
 use Rattle.sg_betti.specs.Limits.{IsPresentable}
 use Rattle.sg_betti.specs.declared.limits.TheConstants.{PRESENTATION_SPAN_LIMIT}
 use Rattle.sg_laws_invariants.specs.Decided.{Decided}
 use Rattle.sg_laws_invariants.proofs.Decisions.{decided-and, decided-le, decided-same}
 use Rattle.sg_laws_invariants.proofs.SpansExist.{span-exists, span-one}
+use Rattle.sg_rows.specs.Asks.{presentation}
 use Rattle.sg_rows.specs.Made.{Tells, AreWithinBits}
 use Rattle.sg_rows.specs.Order.{Passes, Refuses, IsReplyOf}
 use Rattle.sg_rows.specs.declared.fault.Fault.TheVariants.{TooLarge}
@@ -54,6 +55,12 @@ not_refused f G s p = elim (presentable-decided G s) [ inl h ↦ h | inr n ↦ a
     by : (f : PresentationFact) → Passes (presentation_row f G) → ¬ IsPresentable G → ⊥
     by BettiElements p n = p.limit n
     by MinimalPresentation p n = p.limit n
+
+-- ---- what is asked for late
+
+pub late-is : (f : PresentationFact) (G : List ℕ) → (presentation_row f G).late ≡ (presentation, G) ∷ []
+late-is BettiElements G = refl
+late-is MinimalPresentation G = refl
 
 -- ---- the value
 

@@ -1,9 +1,8 @@
-use Rattle.std.proofs.Common.{◌≡◌, ℕ, ◌+◌, List, [], ◌∷◌, ◌++◌, map, take, sym, ap, subst, ◌∙◌}
+use Rattle.std.proofs.Common.{◌≡◌, ℕ, ◌+◌, [], ◌∷◌, ◌++◌, map, take, sym, ap, subst, ◌∙◌}
 use Rattle.std.specs.Prelude.{◌↔◌, Contains}
 use Rattle.std.proofs.lemmas.List.{take_all, take_more, map-append}
 use Rattle.std.proofs.lemmas.Result.{IfOk-weaker}
 use Rattle.sg_defs.specs.Listings.{Lists}
-use Rattle.sg_nonunique.specs.Presentations.{Relation}
 use Rattle.sg_betti.proofs.SortLemmas.{lists-sorted}
 use Rattle.sg_rows_presentations.specs.Read.{IsValueOf}
 use Rattle.sg_rows_presentations.proofs.Reading.{value_of, values-contained}

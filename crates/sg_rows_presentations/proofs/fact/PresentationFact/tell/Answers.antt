@@ -1,12 +1,9 @@
-use Rattle.std.proofs.Common.{Ok, map, sym, subst, refl}
-use Rattle.sg_defs.specs.Listings.{Lists}
+use Rattle.std.proofs.Common.{Ok, sym, subst}
 use Rattle.std.specs.Prelude.{All}
 use Rattle.sg_rows.specs.Made.{Tells, AreWithinBits}
 use Rattle.sg_rows.specs.Order.{Passes}
 use Rattle.sg_rows.specs.declared.made.Made.TheVariants.{Naturals, VectorLists}
-use Rattle.sg_rows_presentations.specs.Read.{sides}
 use Rattle.sg_rows_presentations.specs.Rows.{presentation_row}
-use Rattle.sg_rows_presentations.specs.declared.fact.PresentationFact.TheVariants.{BettiElements, MinimalPresentation}
 use Rattle.sg_rows_presentations.proofs.Bounds.{elements-small, listed-betti, sides-small}
 use Rattle.sg_rows_presentations.proofs.Telling.{not_refused, tells_elements, tells_sides}
 use Rattle.sg_rows_presentations.proofs.fact.PresentationFact.tell.Goals as goal
@@ -14,7 +11,7 @@ use Rattle.sg_rows_presentations.proofs.fact.PresentationFact.tell.Goals as goal
 pub returns-in_ok-elements_of-in-BettiElements : goal.returns-in_ok-elements_of-in-BettiElements
 returns-in_ok-elements_of-in-BettiElements c =
     let G = c.args.table.now in
-    let own = c.generators.ensures in
+    let own = c.generators-generators.ensures in
     let ns = c.in_ok-elements_of-in-BettiElements.field-0 in
     let P = c.args.presentation.now in
     let within = not_refused c.args.self G own.semigroup c.requires.passes in
@@ -25,7 +22,7 @@ returns-in_ok-elements_of-in-BettiElements c =
 pub returns-in_ok-sides_of-in-MinimalPresentation : goal.returns-in_ok-sides_of-in-MinimalPresentation
 returns-in_ok-sides_of-in-MinimalPresentation c =
     let G = c.args.table.now in
-    let own = c.generators.ensures in
+    let own = c.generators-generators.ensures in
     let ls = c.in_ok-sides_of-in-MinimalPresentation.field-0 in
     let P = c.args.presentation.now in
     let within = not_refused c.args.self G own.semigroup c.requires.passes in
