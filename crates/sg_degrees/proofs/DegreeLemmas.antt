@@ -1,5 +1,5 @@
 -- The greatest of the least lengths of classes, over all elements with two classes.
-use Rattle.std.proofs.Common.{ℕ, ◌≤◌, List, length, sum, inl, inr, arith}
+use Rattle.std.proofs.Common.{ℕ, ◌≤◌, List, length, inl, inr, arith}
 use Rattle.std.specs.Prelude.{◌↔◌, All, Contains}
 use Rattle.sg_defs.specs.Membership.{IsFactorization}
 use Rattle.sg_nonunique.specs.Catenary.{IsCatenary}

@@ -1,14 +1,13 @@
 -- The greatest delta: of a list of lengths, and over all elements with two classes.
 use Rattle.std.proofs.Common.{◌≡◌, ℕ, ◌+◌, ◌-◌, ◌<◌, ◌≤◌, List, length, get_or, max, sym, ap, subst, inl, inr, arith}
-use Rattle.std.specs.Prelude.{◌⊎◌, ◌↔◌, All, Contains, Option, None, Some}
+use Rattle.std.specs.Prelude.{◌↔◌, All, Contains, None, Some}
 use Rattle.std.specs.List.Sorted.{IsStrictlyIncreasing}
 use Rattle.std.proofs.lemmas.Bool.{cases_lt}
 use Rattle.sg_defs.specs.Listings.{Lists}
 use Rattle.sg_defs.specs.Membership.{IsFactorization}
 use Rattle.sg_nonunique.specs.Classes.{HasTwoClasses}
-use Rattle.sg_nonunique.specs.Deltas.{IsDelta, IsSomeDelta, IsMinDelta, IsMaxDelta}
+use Rattle.sg_nonunique.specs.Deltas.{IsSomeDelta, IsMinDelta, IsMaxDelta}
 use Rattle.sg_nonunique.specs.Factorizations.{IsLengthIn}
-use Rattle.sg_laws_families.specs.Bounds.{IsGreatestBettiDelta}
 use Rattle.sg_laws_families.proofs.Families.{numbers-family}
 use Rattle.sg_laws_families.proofs.GapLemmas.{max_delta-from_betti}
 use Rattle.sg_factor.specs.Steps.{IsStepOf}

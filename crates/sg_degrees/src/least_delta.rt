@@ -22,7 +22,9 @@ fn difference_gcd(generators: &[u64]) -> u64
     common
 }
 
-/// The same by the generators in ascending order.
+/// The least delta of all elements, by the generators in ascending order, and none where no element has one: the greatest
+/// common divisor of their differences (Geroldinger and Halter-Koch, Non-Unique Factorizations, 2006), and none where that
+/// is 0. It takes no memory.
 pub fn min_delta_of(generators: &Nats) -> Option<u64>
     requires semigroup { IsNumericalSemigroup generators.now }
     requires ascending { IsStrictlyIncreasing generators.now }
@@ -35,9 +37,7 @@ pub fn min_delta_of(generators: &Nats) -> Option<u64>
     Some(common)
 }
 
-/// The least delta of all elements, and none where no element has one, which is so for the naturals alone. It is the
-/// greatest common divisor of the differences of generators (Geroldinger and Halter-Koch, Non-Unique Factorizations,
-/// 2006). It takes no memory.
+/// The same of a table: none for the naturals alone.
 pub fn min_delta(t: &Table) -> Option<u64>
     ensures { IsMinDelta (IsFactorization t.now) result }
 {

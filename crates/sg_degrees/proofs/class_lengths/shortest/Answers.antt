@@ -1,4 +1,4 @@
-use Rattle.std.proofs.Common.{◌+◌, length, take, sym, subst}
+use Rattle.std.proofs.Common.{◌+◌, take, sym, subst}
 use Rattle.std.proofs.lemmas.List.{take_all}
 use Rattle.sg_defs.specs.Membership.{IsFactorization}
 use Rattle.sg_degrees.specs.Lengths.{IsShortestAt}

@@ -1,9 +1,7 @@
-use Rattle.std.proofs.Common.{◌≡◌, ◌<◌, ◌≤◌, ◌+◌, ℕ, List, length, get_or, sym, ap, subst, ◌∙◌, arith}
-use Rattle.std.specs.Prelude.{◌⊎◌, ◌↔◌, All, Contains}
+use Rattle.std.proofs.Common.{ℕ, length, sym, ap, subst, ◌∙◌, arith}
 use Rattle.std.proofs.lemmas.Result.{IfOk-weaker}
 use Rattle.sg_defs.specs.Membership.{IsFactorization}
 use Rattle.sg_nonunique.specs.Catenary.{IsCatenary}
-use Rattle.sg_nonunique.specs.Classes.{HasTwoClasses}
 use Rattle.sg_degrees.specs.Greatest.{IsGreatestOver}
 use Rattle.sg_degrees.specs.Lengths.{AreLeastLengths, IsLongestClass}
 use Rattle.sg_degrees.proofs.BettiLemmas.{all-betti, greatest-within, listed-values}

@@ -1,7 +1,6 @@
-use Rattle.std.proofs.Common.{◌≡◌, ◌<◌, ◌≤◌, ℕ, List, length, get_or, max, sym, ap, subst, ◌∙◌, arith}
-use Rattle.std.specs.Prelude.{◌⊎◌, ◌↔◌, Contains, Some, None}
+use Rattle.std.proofs.Common.{ℕ, List, sym, subst, arith}
+use Rattle.std.specs.Prelude.{Some, None}
 use Rattle.sg_defs.specs.Membership.{IsFactorization}
-use Rattle.sg_nonunique.specs.Classes.{HasTwoClasses}
 use Rattle.sg_nonunique.specs.Deltas.{IsMinDelta, IsMaxDelta}
 use Rattle.sg_degrees.specs.Greatest.{IsGreatestOver}
 use Rattle.sg_degrees.specs.Lengths.{IsWidest}

@@ -1,4 +1,4 @@
-use Rattle.std.proofs.Common.{ℕ, take}
+use Rattle.std.proofs.Common.{take}
 use Rattle.sg_defs.specs.Membership.{IsFactorization}
 use Rattle.sg_degrees.specs.Greatest.{IsGreatestOver}
 use Rattle.sg_degrees.specs.Lengths.{IsWidest}

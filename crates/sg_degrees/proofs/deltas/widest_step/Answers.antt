@@ -1,4 +1,4 @@
-use Rattle.std.proofs.Common.{◌+◌, ◌≤◌, length, get_or, sym, subst, arith}
+use Rattle.std.proofs.Common.{◌+◌, sym, subst, arith}
 use Rattle.sg_degrees.proofs.DeltaLemmas.{IsWidestBelow, widest-none, widest-more}
 use Rattle.sg_degrees.proofs.deltas.widest_step.Goals as goal
 

@@ -1,4 +1,4 @@
-use Rattle.std.proofs.Common.{ℕ, ◌<◌, ◌≤◌, ◌≡◌, List, length, get_or, sym, subst, ap, arith}
+use Rattle.std.proofs.Common.{ℕ, ◌<◌, ◌≤◌, List, length, get_or, sym, subst, ap, arith}
 use Rattle.sg_defs.proofs.MinimalLemmas.{first-least}
 use Rattle.sg_laws_families.specs.Bounds.{IsDifferenceGcd}
 use Rattle.sg_laws_families.proofs.DifferenceLemmas.{min_delta-none, min_delta-some}
