@@ -14,7 +14,7 @@ use Rattle.sg_rows.specs.Values.{answers, natural_list, vector_list}
 use Rattle.sg_rows.specs.declared.fault.CallFault.TheVariants.{Script}
 use Rattle.sg_rows.specs.declared.fault.Fault.TheVariants.{TooLarge}
 use Rattle.sg_rows.specs.declared.made.Made.{Made}
-use Rattle.sg_rows.specs.declared.made.Made.TheVariants.{Integer, Natural, Truth, Integers, Naturals, Vectors, VectorLists, Semigroup, Semigroups, Ideal}
+use Rattle.sg_rows.specs.declared.made.Made.TheVariants.{Integer, Natural, Truth, Fail, Integers, Naturals, Vectors, VectorLists, Semigroup, Semigroups, Ideal}
 use Rattle.sg_rows.proofs.Listing.{delivers_integers, delivers_heavy_integers, delivers_naturals, delivers_heavy_naturals, delivers_semigroups, delivers_heavy_semigroups, delivers_vectors, delivers_heavy_vectors, delivers_lists, delivers_heavy_lists, plain_integers, plain_naturals, plain_vectors, plain_lists, integers_known, naturals_known, vectors_known, lists_known}
 use Rattle.sg_rows.proofs.Replying.{answers_pass, delivered}
 use Rattle.sg_calls.specs.Delivered.{IsValueOf, weight_made}
@@ -93,6 +93,7 @@ light_delivers (Semigroups L) bits few = delivers_semigroups L few
 light_delivers (Integer z) bits few = delivers_single (int z) bits refl refl
 light_delivers (Natural n) bits few = delivers_single (int (pos n)) bits refl refl
 light_delivers (Truth b) bits few = delivers_single (datum (Truth b)) bits refl refl
+light_delivers Fail bits few = delivers_single (datum Fail) bits refl refl
 light_delivers (Semigroup G) bits few = delivers_single (datum (Semigroup G)) bits refl refl
 light_delivers (Ideal G I) bits few = delivers_single (datum (Ideal G I)) bits refl refl
 

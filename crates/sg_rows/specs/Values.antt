@@ -1,8 +1,8 @@
 -- Values of rows by their kinds.
-use Rattle.std.specs.Prelude.{◌≡◌, ◌↔◌, ◌+◌, ℕ, suc, ℤ, pos, Bool, IsTrue, List, [], ◌∷◌, length, map}
+use Rattle.std.specs.Prelude.{◌≡◌, ◌↔◌, ◌+◌, ℕ, suc, ℤ, pos, Bool, IsTrue, List, [], ◌∷◌, length, map, Option, Some, None}
 use Rattle.sg_defs.specs.Membership.{Generates}
 use Rattle.sg_apery.specs.Fit.{IsFit}
-use Rattle.sg_value.specs.Data.{Data, int, truth, list, semigroup, semigroups, items_of, Kind}
+use Rattle.sg_value.specs.Data.{Data, int, truth, list, fail, semigroup, semigroups, items_of, Kind}
 use Rattle.sg_rows.specs.Order.{Plain, Row}
 
 -- a row that refuses nothing by itself
@@ -18,6 +18,15 @@ an_integer P d = (z : ℤ) × (d ≡ int z) × P z
 -- a natural of which P holds
 abbrev pub a_natural : (ℕ → Type 0) → Plain → Type 0
 a_natural P d = (n : ℕ) × (d ≡ int (pos n)) × P n
+
+-- the natural, or fail where there is none
+abbrev pub natural_or_fail : {H : Kind → Type 0} → Option ℕ → Data H
+natural_or_fail None = fail
+natural_or_fail (Some n) = int (pos n)
+
+-- a natural or fail, of which P holds
+abbrev pub a_natural_or_fail : (Option ℕ → Type 0) → Plain → Type 0
+a_natural_or_fail P d = (r : Option ℕ) × (d ≡ natural_or_fail r) × P r
 
 -- whether P holds
 abbrev pub whether : Type 0 → Plain → Type 0

@@ -18,6 +18,8 @@ pub enum Made {
     Natural(u64),
     /// A truth value.
     Truth(bool),
+    /// That there is no value of the kind that is asked for.
+    Fail,
     /// A list of integers.
     Integers(Ints),
     /// A list of naturals below 2^63.

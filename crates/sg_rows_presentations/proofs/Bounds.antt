@@ -1,83 +1,37 @@
--- The values of the canonical relations are the Betti elements, and nothing in a presentation is past the span.
-use Rattle.std.proofs.Common.{◌≡◌, ℕ, ◌+◌, ◌-◌, ◌%◌, ◌<◌, ◌≤◌, ◌^◌, List, length, get_or, map, refl, sym, subst, inl, inr, arith}
-use Rattle.std.specs.Prelude.{◌↔◌, ℤ, pos, negsuc, ◌+ℤ◌, All}
-use Rattle.std.specs.List.Sorted.{IsStrictlyIncreasing}
+-- The values of the canonical relations are the Betti elements, and nothing in a presentation, no catenary degree and no
+-- delta is past the span.
+use Rattle.std.proofs.Common.{◌≡◌, ℕ, suc, zero, ◌+◌, ◌-◌, ◌<◌, ◌≤◌, ◌^◌, List, length, get_or, map, sum, Option, Some, None, refl, sym, ap, subst, ◌∙◌, inl, inr, arith}
+use Rattle.std.specs.Prelude.{All}
+use Rattle.std.specs.Int.{◌∣◌}
+use Rattle.std.proofs.Math.Nat.{eq-zero_of_zero-dvd}
 use Rattle.std.proofs.lemmas.Bool.{cases_lt}
-use Rattle.std.proofs.lemmas.Int.{ints}
-use Rattle.sg_defs.specs.Apery.{IsAperyEntry}
-use Rattle.sg_defs.specs.Invariants.{IsFrobenius}
+use Rattle.std.proofs.lemmas.List.Kept.{AllPairs-from_increasing}
+use Rattle.std.proofs.lemmas.Nat.Gcd.{dvd-zero, le_of_dvd}
 use Rattle.sg_defs.specs.Listings.{Lists}
 use Rattle.sg_defs.specs.Membership.{IsFactorization, IsMinimal, IsNumericalSemigroup}
+use Rattle.sg_defs.proofs.MinimalLemmas.{first-least}
+use Rattle.sg_nonunique.specs.Catenary.{IsCatenary}
 use Rattle.sg_nonunique.specs.Classes.{IsSameClass, HasTwoClasses}
+use Rattle.sg_nonunique.specs.Deltas.{IsDelta, IsMaxDelta, IsMinDelta}
 use Rattle.sg_nonunique.specs.Presentations.{Relation, IsCanonical, IsCanonicalRelation}
-use Rattle.sg_classes.specs.Fit.{IsSpan}
+use Rattle.sg_classes.specs.Fit.{IsFit}
 use Rattle.sg_apery.proofs.GeneratorLemmas.{place-contains}
-use Rattle.sg_laws_finite.specs.Listing.{all_factorizations}
 use Rattle.sg_laws_finite.proofs.ElementLemmas.{all-from_contained, from-map}
-use Rattle.sg_laws_finite.proofs.FactorizationLemmas.{factorizations-listed}
 use Rattle.sg_laws_finite.proofs.PartialLemmas.{place-below_sum}
-use Rattle.sg_laws_finite.proofs.SetLemmas.{class-decided}
-use Rattle.sg_laws_families.proofs.BettiLemmas.{betti-candidate}
-use Rattle.sg_laws_families.proofs.CanonicalLemmas.{root-exists, top-exists, greatest-of_class}
-use Rattle.sg_laws_families.proofs.ClassLemmas.{class-start, class-then, class-back}
+use Rattle.sg_laws_families.proofs.ChainLemmas.{chained-from_classes}
+use Rattle.sg_laws_families.specs.Bounds.{IsDifferenceGcd}
+use Rattle.sg_laws_families.proofs.ClassLemmas.{class-here, class-start}
+use Rattle.sg_laws_families.proofs.DifferenceLemmas.{difference_gcd-exists, min_delta-none, min_delta-some}
 use Rattle.sg_laws_families.proofs.Families.{numbers-family}
-use Rattle.sg_factor.proofs.AscendingLemmas.{ascends-le}
+use Rattle.sg_laws_families.proofs.GapLemmas.{deltas-bounded}
 use Rattle.sg_factor.proofs.BoundLemmas.{value-at_least}
 use Rattle.sg_betti.specs.Limits.{IsPresentable}
-use Rattle.sg_rows.specs.Made.{AreWithinBits}
-use Rattle.sg_rows_presentations.specs.Read.{IsValueOf, sides}
-use Rattle.sg_rows_presentations.specs.Rows.{AreBettiElements}
+use Rattle.sg_degrees.specs.Values.{IsValueOf}
+use Rattle.sg_degrees.proofs.BettiLemmas.{betti-within, values-betti}
+use Rattle.sg_rows.specs.Made.{AreWithinBits, IsSound}
+use Rattle.sg_rows_presentations.specs.Read.{sides}
+use Rattle.sg_rows_presentations.specs.Rows.{AreBettiElements, made_of}
 use Rattle.sg_rows_presentations.proofs.Reading.{two-cases}
-
-module _ (G : List ℕ) (positive : All (λ g. 1 ≤ g) G) where
-  -- where there are two classes, each vector has another than its own
-  pub other-class : (n : ℕ) (x : List ℕ) → HasTwoClasses (IsFactorization G n) → IsFactorization G n x →
-      (y : List ℕ) × IsFactorization G n y × (IsSameClass (IsFactorization G n) x y → ⊥)
-  other-class n x h p = elim (class-decided (IsFactorization G n) (all_factorizations G n) (factorizations-listed G n positive) x h.0) [
-    | inr apart ↦ (h.0, h.2, apart)
-    | inl same ↦ (h.1, h.3, λ j. h.4 (class-then (IsFactorization G n) h.0 x h.1 (class-back (IsFactorization G n) x h.0 same) j))
-  ]
-
-  -- the values of the canonical relations are the elements with two classes
-  pub values-betti : (P : List (Relation ℕ)) → IsCanonical (◌<◌) (IsFactorization G) P → (n : ℕ) → IsValueOf P n ↔ HasTwoClasses (IsFactorization G n)
-  values-betti P c n = (
-    (λ v.
-        let r = v.0 in
-        let k = c.canonical r v.1 in
-        let two : HasTwoClasses (IsFactorization G r.value) = (r.left, r.right, k.left.member, class-start (IsFactorization G r.value) r.right r.right k.right.member, k.apart) in
-        subst (λ m. HasTwoClasses (IsFactorization G m)) v.2 two),
-    (λ h.
-        let family = numbers-family G positive in
-        let root = root-exists (IsFactorization G) (λ m. m) (length G) family n h.0 h.2 in
-        let other = other-class n root.0 h root.1.member in
-        let top = top-exists (IsFactorization G) (λ m. m) (length G) family n other.0 other.1 in
-        let r : Relation ℕ = record { value = n; left = root.0; right = top.0 } in (
-          r,
-          c.whole r (record {
-            left = root.1;
-            right = greatest-of_class (IsFactorization G n) other.0 top.0 top.1.member top.1;
-            apart = λ s. other.2 (class-then (IsFactorization G n) root.0 top.0 other.0 s (class-back (IsFactorization G n) other.0 top.0 top.1.member));
-          }),
-          refl,
-        )),
-  )
-
--- an Apery element and the last generator together are not past the span
-entry-within : (G : List ℕ) (f : ℤ) (m i w s last : ℕ) → IsFrobenius G f → IsAperyEntry G m i w → pos s ≡ ((f +ℤ pos m) +ℤ pos last) → w + last ≤ s
-entry-within G f m i w s last h e is = elim (cases_lt s (w + last)) [
-  | inr within ↦ within
-  | inl past ↦ elim (cases_lt w m) [
-    | inl small ↦ absurd (h.above (negsuc 0) (omega (arith, ints, is, past, small)))
-    | inr large ↦ absurd (e.least (w - m) (omega (arith, large)) (h.above (pos (w - m)) (omega (arith, ints, is, past, large))))
-  ]
-]
-
--- nor is an element with two classes
-pub betti-within : (G : List ℕ) (n s : ℕ) → All (λ g. 1 ≤ g) G → IsStrictlyIncreasing G → IsSpan G s → HasTwoClasses (IsFactorization G n) → n ≤ s
-betti-within G n s positive up span h =
-    let c = betti-candidate G positive n h in
-    let rest = entry-within G span.0 (get_or G 0 0) (c.rest % get_or G 0 0) c.rest s (get_or G (length G - 1) 0) span.1 c.entry span.2 in
-    omega (arith, rest, c.sum, ascends-le G up c.place (length G - 1) (omega (arith, c.in_range)) (omega (arith, c.in_range)))
 
 -- the values of the canonical relations, ascending, list the Betti elements
 pub listed-betti : (G : List ℕ) (P : List (Relation ℕ)) (ns : List ℕ) → IsNumericalSemigroup G → IsCanonical (◌<◌) (IsFactorization G) P → Lists (IsValueOf P) ns → AreBettiElements G ns
@@ -113,3 +67,60 @@ module _ (G : List ℕ) (semigroup : IsNumericalSemigroup G) (minimal : IsMinima
   sides-small P c = all-from_contained (All AreWithinBits) (map sides P) (λ l there.
       let f = from-map sides P l there in
       subst (All AreWithinBits) (sym f.1) (relation-small f.0 (c.canonical f.0 f.2)))
+
+  -- a factorization of an element with two classes is no longer than the span
+  short-enough : (n : ℕ) (z : List ℕ) → HasTwoClasses (IsFactorization G n) → IsFactorization G n z → sum z ≤ within.span
+  short-enough n z two f =
+      let least = value-at_least G z 1 f.places (λ k l. semigroup.positive k 0 l) in
+      let low = betti-within G n within.span semigroup.positive minimal.ascending within.is_span two in
+      omega (arith, least, low, f.value)
+
+  pub catenary-small : (c : ℕ) → IsCatenary (IsFactorization G) c → c < 2 ^ 63
+  catenary-small c h =
+      let chained = chained-from_classes (IsFactorization G) (λ n. n) (length G) (numbers-family G semigroup.positive) within.span
+      (λ n x y p q apart. (x, (class-here (IsFactorization G n) x p, short-enough n x (x, y, p, q, apart) p))) in
+      let short = within.short in
+      elim (cases_lt within.span c) [
+        | inl less ↦ let n = h.least within.span less in absurd (n.1 (chained n.0))
+        | inr more ↦ omega (arith, more, short)
+      ]
+
+  delta-small : (n d : ℕ) → IsDelta (IsFactorization G n) d → d < 2 ^ 63
+  delta-small n d t =
+      let low = deltas-bounded (IsFactorization G) (λ m. m) (length G) (numbers-family G semigroup.positive) within.span
+      (λ m e two u. let upper = u.is_upper in omega (arith, short-enough m upper.0 two upper.1, upper.2)) n d t in
+      let short = within.short in
+      omega (arith, low, short)
+
+  pub max_delta-sound : (r : Option ℕ) → IsMaxDelta (IsFactorization G) r → IsSound (made_of r)
+  max_delta-sound None h = tt
+  max_delta-sound (Some d) h = let s = h.some in delta-small s.0 d s.1
+
+-- the least delta divides the difference of the first two generators
+module _ (G : List ℕ) (semigroup : IsNumericalSemigroup G) (minimal : IsMinimal G) (fit : IsFit G) where
+  gcd-small : (g : ℕ) → IsDifferenceGcd G (suc g) → suc g < 2 ^ 63
+  gcd-small g h = elim (cases_lt 1 (length G)) [
+    | inl more ↦
+        let up : get_or G 0 0 < get_or G 1 0 = AllPairs-from_increasing G minimal.ascending 0 1 0 (omega arith) more in
+        let below = fit.small 1 more in
+        let divides = le_of_dvd (omega (arith, up)) (h.divides 1 more) in
+        omega (arith, divides, below)
+    | inr sole ↦
+        let none : 0 ∣ suc g = h.greatest 0 (λ i l. let first : 0 ≡ i = omega (arith, sole, l) in let same : 0 ≡ get_or G 0 0 - get_or G 0 0 = omega arith in subst (λ k. 0 ∣ (get_or G k 0 - get_or G 0 0)) first (subst (λ n. 0 ∣ n) same (dvd-zero 0))) in
+        absurd (omega (arith, eq-zero_of_zero-dvd none))
+  ]
+
+  pub least_delta-sound : (r : Option ℕ) → IsMinDelta (IsFactorization G) r → IsSound (made_of r)
+  least_delta-sound None h = tt
+  least_delta-sound (Some d) h = by (difference_gcd-exists G more).0 (difference_gcd-exists G more).1
+    where
+      more : (k : ℕ) → k < length G → get_or G 0 0 ≤ get_or G k 0
+      more = first-least G minimal.ascending
+
+      by : (g : ℕ) → IsDifferenceGcd G g → d < 2 ^ 63
+      by zero k = absurd ((min_delta-none G semigroup more 0 k refl).none d h.some)
+      by (suc g) k =
+          let other = min_delta-some G semigroup more (suc g) k (omega arith) in
+          let least = h.least (suc g) other.some in
+          let small = gcd-small g k in
+          omega (arith, least, small)

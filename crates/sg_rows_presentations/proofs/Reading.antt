@@ -4,7 +4,7 @@ use Rattle.std.specs.Prelude.{◌↔◌, ◌⊎◌, Contains}
 use Rattle.sg_defs.proofs.ListLemmas.{contains-cases}
 use Rattle.sg_nonunique.specs.Presentations.{Relation}
 use Rattle.sg_laws_finite.proofs.ElementLemmas.{contains-map, contains-nil, from-map}
-use Rattle.sg_rows_presentations.specs.Read.{IsValueOf}
+use Rattle.sg_degrees.specs.Values.{IsValueOf}
 
 abbrev pub value_of : Relation ℕ → ℕ
 value_of r = r.value

@@ -1,10 +1,6 @@
--- What is read off relations.
-use Rattle.std.specs.Prelude.{◌≡◌, ℕ, List, [], ◌∷◌, Contains}
+-- Relations as lists of vectors.
+use Rattle.std.specs.Prelude.{ℕ, List, [], ◌∷◌}
 use Rattle.sg_nonunique.specs.Presentations.{Relation}
-
--- n is the value of one of the relations
-abbrev pub IsValueOf : List (Relation ℕ) → ℕ → Type 0
-IsValueOf P n = (r : Relation ℕ) × Contains P r × (r.value ≡ n)
 
 -- the two sides of a relation
 abbrev pub sides : Relation ℕ → List (List ℕ)

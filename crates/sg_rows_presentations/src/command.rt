@@ -6,27 +6,44 @@ ghost use Rattle.sg_rows_presentations.specs.Commands.{named, takes};
 use crate::fact::PresentationFact;
 use sg_rows::{Named, find};
 
-/// The names of all commands of this crate.
-static NAMES: [Named<PresentationFact>; 2] = [
-    Named(b"BettiElements", PresentationFact::BettiElements),
+/// A command of this crate.
+#[derive(Clone, Copy)]
+pub enum PresentationCommand {
+    /// Of a semigroup. It asks for the table, and for the presentation where it is not refused.
+    OfPresentation(PresentationFact),
+    /// The least delta of a semigroup. It asks for nothing.
+    LeastDelta,
+}
+
+/// The names of all commands of this crate but for `CatenaryDegree`, which is also that of an element.
+static NAMES: [Named<PresentationCommand>; 4] = [
+    Named(
+        b"BettiElements",
+        PresentationCommand::OfPresentation(PresentationFact::BettiElements),
+    ),
+    Named(
+        b"MaximumDelta",
+        PresentationCommand::OfPresentation(PresentationFact::MaximumDelta),
+    ),
     Named(
         b"MinimalPresentation",
-        PresentationFact::MinimalPresentation,
+        PresentationCommand::OfPresentation(PresentationFact::MinimalPresentation),
     ),
+    Named(b"MinimumDelta", PresentationCommand::LeastDelta),
 ];
 
 /// The command of this name.
-pub fn named(name: &[u8]) -> Option<PresentationFact>
+pub fn named(name: &[u8]) -> Option<PresentationCommand>
     ensures { result ≡ named name.now }
 {
     find(&NAMES, name)
 }
 
 /// Whether the command takes so many arguments: each takes one.
-pub fn takes(fact: PresentationFact, count: usize) -> bool
-    ensures { result ≡ takes fact count }
+pub fn takes(command: PresentationCommand, count: usize) -> bool
+    ensures { result ≡ takes command count }
 {
-    match fact {
-        PresentationFact::BettiElements | PresentationFact::MinimalPresentation => count == 1,
+    match command {
+        PresentationCommand::OfPresentation(_) | PresentationCommand::LeastDelta => count == 1,
     }
 }

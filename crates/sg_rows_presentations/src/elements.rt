@@ -2,7 +2,7 @@
 
 ghost use Rattle.std.specs.Prelude.{IfOk};
 ghost use Rattle.sg_defs.specs.Listings.{Lists};
-ghost use Rattle.sg_rows_presentations.specs.Read.{IsValueOf};
+ghost use Rattle.sg_degrees.specs.Values.{IsValueOf};
 
 use sg_betti::Presentation;
 use sg_nat::Nats;

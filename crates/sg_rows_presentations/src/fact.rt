@@ -7,10 +7,12 @@ ghost use Rattle.sg_rows.specs.Made.{Tells};
 ghost use Rattle.sg_rows.specs.Order.{Passes};
 ghost use Rattle.sg_rows_presentations.specs.Rows.{Checked, presentation_row};
 
+use crate::deltas::delta_or_fail;
 use crate::elements::elements_of;
 use crate::sides::sides_of;
 use sg_apery::Table;
 use sg_betti::{Presentation, is_presentable};
+use sg_degrees::{catenary, max_delta};
 use sg_rows::{CallFault, Fault, Made};
 use std::alloc::Global;
 
@@ -20,6 +22,11 @@ use std::alloc::Global;
 pub enum PresentationFact {
     /// The Betti elements, ascending: the elements with two factorizations that are not in one class.
     BettiElements,
+    /// The catenary degree: the least number N such that any two factorizations of every element are joined by steps of
+    /// distance at most N.
+    CatenaryDegree,
+    /// The greatest delta of all elements, and fail for the naturals, where no element has one.
+    MaximumDelta,
     /// The canonical relations, each as the list of its two sides, the greater first.
     MinimalPresentation,
 }
@@ -52,6 +59,12 @@ impl PresentationFact {
         match self {
             PresentationFact::BettiElements => {
                 Ok(Made::Naturals(elements_of(alloc, presentation)?))
+            }
+            PresentationFact::CatenaryDegree => {
+                Ok(Made::Natural(catenary(alloc, table, presentation)?))
+            }
+            PresentationFact::MaximumDelta => {
+                Ok(delta_or_fail(max_delta(alloc, table, presentation)?))
             }
             PresentationFact::MinimalPresentation => {
                 Ok(Made::VectorLists(sides_of(alloc, presentation)?))

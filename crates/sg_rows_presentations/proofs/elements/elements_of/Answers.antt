@@ -4,7 +4,7 @@ use Rattle.std.proofs.lemmas.List.{take_all, take_more, map-append}
 use Rattle.std.proofs.lemmas.Result.{IfOk-weaker}
 use Rattle.sg_defs.specs.Listings.{Lists}
 use Rattle.sg_betti.proofs.SortLemmas.{lists-sorted}
-use Rattle.sg_rows_presentations.specs.Read.{IsValueOf}
+use Rattle.sg_degrees.specs.Values.{IsValueOf}
 use Rattle.sg_rows_presentations.proofs.Reading.{value_of, values-contained}
 use Rattle.sg_rows_presentations.proofs.elements.elements_of.Goals as goal
 
