@@ -52,8 +52,8 @@ impl Table {
         from_distinct(alloc, &entries)
     }
 
-    /// The numerical semigroup with these minimal generators, in `e*m` steps for `e` generators and the multiplicity
-    /// `m`, but where there are many, for generators that lower no entry: these cost one step each.
+    /// The numerical semigroup with these minimal generators, in about `e*m` steps for `e` generators and the multiplicity
+    /// `m`. Where there are many, only sums up to a bound are made, which are mostly far fewer.
     pub fn of_minimal(alloc: Global, gens: &Nats) -> Result<Table, AllocError>
         requires semigroup { IsNumericalSemigroup gens.now }
         requires minimal { IsMinimal gens.now }

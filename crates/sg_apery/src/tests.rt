@@ -62,3 +62,20 @@ fn semigroups_of_tables(rt: HostRuntime) -> Result<(), Fail> {
     assert_eq!(rt; listed(alloc, half)?.as_slice(), [2, 3].as_slice());
     Ok(())
 }
+
+#[test]
+fn many_generators(rt: HostRuntime) -> Result<(), Fail> {
+    let alloc = rt.alloc();
+    let mut given = Vec::from_slice(alloc, &[40])?;
+    for half in 20..41 {
+        given.push(2 * half + 1)?;
+    }
+    let table = Table::from_generators(alloc, &given)?;
+    assert_eq!(rt; table.generators().len(), 21);
+    assert!(rt; table.contains_natural(82));
+    assert!(rt; !table.contains_natural(78));
+    let again = Table::of_minimal(alloc, table.generators())?;
+    assert!(rt; again.contains_natural(118));
+    assert!(rt; !again.contains_natural(42));
+    Ok(())
+}

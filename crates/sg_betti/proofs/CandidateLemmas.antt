@@ -1,4 +1,4 @@
--- A candidate is an entry of any Apery list of the first generator, and a later generator.
+-- A candidate is the sum of an entry of any Apery list of the first generator and a later generator.
 use Rattle.std.proofs.Common.{◌≡◌, ℕ, zero, suc, ◌+◌, ◌*◌, ◌%◌, ◌<◌, ◌≤◌, List, length, get_or, sym, inl, inr, ◌∙◌, arith}
 use Rattle.std.specs.Prelude.{All}
 use Rattle.std.proofs.lemmas.Bool.{cases_lt}
@@ -29,14 +29,20 @@ one-entry G m i v w positive p a b = elim (cases_lt v w) [
   ]
 ]
 
-pub candidate-listed : (G t : List ℕ) (n : ℕ) → All (λ g. 1 ≤ g) G → IsApery G (get_or G 0 0) t → IsBettiCandidate G n →
-    (i j : ℕ) × (i < length t) × (0 < j) × (j < length G) × (n ≡ get_or t i 0 + get_or G j 0)
-candidate-listed G t n all a c =
+-- the Apery element of a candidate stands in the list
+pub candidate-entry : (G t : List ℕ) (n : ℕ) → All (λ g. 1 ≤ g) G → IsApery G (get_or G 0 0) t → (c : IsBettiCandidate G n) →
+    (i : ℕ) × (i < length t) × (get_or t i 0 ≡ c.rest)
+candidate-entry G t n all a c =
     let m = get_or G 0 0 in
     let long : 0 < length G = omega (arith, c.after_first, c.in_range) in
     let positive : 0 < m = all 0 0 long in
     let i = c.rest % m in
     let inside : i < m = mod_below c.rest m positive in
     let entry : IsAperyEntry G m i (get_or t i 0) = record { member = a.member i inside; residue = a.residue i inside; least = λ y e q. a.least i y inside e q } in
-    let e : get_or t i 0 ≡ c.rest = one-entry G m i (get_or t i 0) c.rest positive (member-entry G 0 long) entry c.entry in
-    (i, c.place, omega (arith, inside, a.entries), c.after_first, c.in_range, omega (arith, e, c.sum))
+    (i, omega (arith, inside, a.entries), one-entry G m i (get_or t i 0) c.rest positive (member-entry G 0 long) entry c.entry)
+
+pub candidate-listed : (G t : List ℕ) (n : ℕ) → All (λ g. 1 ≤ g) G → IsApery G (get_or G 0 0) t → IsBettiCandidate G n →
+    (i j : ℕ) × (i < length t) × (0 < j) × (j < length G) × (n ≡ get_or t i 0 + get_or G j 0)
+candidate-listed G t n all a c =
+    let s = candidate-entry G t n all a c in
+    (s.0, c.place, s.1, c.after_first, c.in_range, omega (arith, s.2, c.sum))

@@ -11,8 +11,9 @@ use Rattle.sg_laws_families.proofs.PlaceClasses.{class-by_places, number-vertex}
 use Rattle.sg_defs.specs.Listings.{Lists}
 use Rattle.sg_laws_finite.proofs.ElementLemmas.{all-from_contained, contains-nil, here}
 use Rattle.sg_betti.specs.Links.{IsParted}
-use Rattle.sg_betti.specs.Sums.{IsSumBelow}
-use Rattle.sg_betti.proofs.CandidateLemmas.{candidate-listed}
+use Rattle.sg_betti.specs.Sums.{IsFree, IsFreeSum, IsSumBelow}
+use Rattle.sg_betti.proofs.CandidateLemmas.{candidate-entry, candidate-listed}
+use Rattle.sg_betti.proofs.EarlyLemmas.{betti-early}
 use Rattle.sg_betti.proofs.GraphLemmas.{connected-back, connected-then, some-positive}
 use Rattle.sg_betti.proofs.SetLemmas.{set-pushed}
 
@@ -86,24 +87,57 @@ module _ (Old : ℕ → Type 0) (G : List ℕ) (rest i n : ℕ) (positive : 0 < 
     ])),
   )
 
+-- below the place behind that of the first generator that can be taken
+pub free-taken : (G : List ℕ) (rest i j : ℕ) → 0 < i → IsFree G rest i → IsVertex (IsFactorization G rest) i → j < i + 1 ↔ IsFree G rest j
+free-taken G rest i j positive free v = (
+  (λ h. λ k p l. free k p (omega (arith, h, l))),
+  (λ h. elim (cases_lt i j) [
+    | inl less ↦ absurd (h i positive less v)
+    | inr more ↦ omega (arith, more)
+  ]),
+)
+
+-- the sums up to the first generator that can be taken
+pub sums-free : (G : List ℕ) (rest end n : ℕ) → end ≤ length G → ((j : ℕ) → 0 < j → j < length G → j < end ↔ IsFree G rest j) → IsSumBelow G rest end n ↔ IsFreeSum G rest n
+sums-free G rest end n inside exactly = (
+  (λ s.
+      let l : s.0 < length G = omega (arith, inside, s.2) in
+      (s.0, s.1, l, (exactly s.0 s.1 l).0 s.2, s.3)),
+  (λ s. (s.0, s.1, (exactly s.0 s.1 s.2).1 s.3, s.4)),
+)
+
+-- what was found before, and all such sums
+pub sums-whole : (Old : ℕ → Type 0) (G : List ℕ) (rest end n : ℕ) → end ≤ length G → ((j : ℕ) → 0 < j → j < length G → j < end ↔ IsFree G rest j) → (P : Type 0) → P ↔ IsOldOrSum Old G rest end n →
+    P ↔ (Old n ⊎ (HasTwoClasses (IsFactorization G n) × IsFreeSum G rest n))
+sums-whole Old G rest end n inside exactly P before = (
+  (λ h. elim (before.0 h) [
+    | inl old ↦ inl old
+    | inr sum ↦ inr (sum.0, (sums-free G rest end n inside exactly).0 sum.1)
+  ]),
+  (λ h. before.1 (elim h [
+    | inl old ↦ inl old
+    | inr sum ↦ inr (sum.0, (sums-free G rest end n inside exactly).1 sum.1)
+  ])),
+)
+
 -- n has two classes, and is the sum of one of the first i entries of the list and a later generator
 abbrev pub IsFoundBelow : List ℕ → List ℕ → ℕ → ℕ → Type 0
-IsFoundBelow G t i n = HasTwoClasses (IsFactorization G n) × ((k : ℕ) × (k < i) × IsSumBelow G (get_or t k 0) (length G) n)
+IsFoundBelow G t i n = HasTwoClasses (IsFactorization G n) × ((k : ℕ) × (k < i) × IsFreeSum G (get_or t k 0) n)
 
 -- the sums of one more entry were added
 pub found-more : (G t : List ℕ) (i rest : ℕ) (l now : List ℕ) → rest ≡ get_or t i 0 → ((n : ℕ) → Contains l n ↔ IsFoundBelow G t i n) →
-    ((n : ℕ) → Contains now n ↔ (Contains l n ⊎ (HasTwoClasses (IsFactorization G n) × IsSumBelow G rest (length G) n))) →
+    ((n : ℕ) → Contains now n ↔ (Contains l n ⊎ (HasTwoClasses (IsFactorization G n) × IsFreeSum G rest n))) →
     (n : ℕ) → Contains now n ↔ IsFoundBelow G t (i + 1) n
 found-more G t i rest l now read before added n = (
   (λ h. elim ((added n).0 h) [
     | inl old ↦ let f = (before n).0 old in (f.0, (f.1.0, omega (arith, f.1.1), f.1.2))
-    | inr new ↦ (new.0, (i, omega arith, subst (λ r. IsSumBelow G r (length G) n) read new.1))
+    | inr new ↦ (new.0, (i, omega arith, subst (λ r. IsFreeSum G r n) read new.1))
   ]),
   (λ h. (added n).1 (elim (cases_lt h.1.0 i) [
     | inl less ↦ inl ((before n).1 (h.0, (h.1.0, less, h.1.2)))
     | inr more ↦
         let e : h.1.0 ≡ i = omega (arith, h.1.1) in
-        inr (h.0, subst (λ r. IsSumBelow G r (length G) n) (sym read) (subst (λ k. IsSumBelow G (get_or t k 0) (length G) n) e h.1.2))
+        inr (h.0, subst (λ r. IsFreeSum G r n) (sym read) (subst (λ k. IsFreeSum G (get_or t k 0) n) e h.1.2))
   ])),
 )
 
@@ -113,8 +147,10 @@ pub found-all : (G t : List ℕ) (i : ℕ) (l : List ℕ) → All (λ g. 1 ≤ g
 found-all G t i l positive a far found n = (
   (λ h. ((found n).0 h).0),
   (λ h.
-      let c = candidate-listed G t n positive a (betti-candidate G positive n h) in
-      (found n).1 (h, (c.0, omega (arith, c.2, far), (c.1, c.3, c.4, c.5)))),
+      let e = betti-early G n positive h in
+      let s = candidate-entry G t n positive a e.0 in
+      let free : IsFree G (get_or t s.0 0) e.0.place = λ i later l. subst (λ r. ¬ IsVertex (IsFactorization G r) i) (sym s.2) (e.1 i l) in
+      (found n).1 (h, (s.0, omega (arith, s.1, far), (e.0.place, e.0.after_first, e.0.in_range, free, omega (arith, s.2, e.0.sum))))),
 )
 
 -- where something is left, some place is

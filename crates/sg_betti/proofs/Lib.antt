@@ -1,4 +1,5 @@
 pub mod CandidateLemmas
+pub mod EarlyLemmas
 pub mod ElementLemmas
 pub mod GraphLemmas
 pub mod PresentationLemmas

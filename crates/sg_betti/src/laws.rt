@@ -7,8 +7,8 @@ ghost use Rattle.sg_nonunique.specs.Classes.{HasTwoClasses};
 ghost use Rattle.sg_nonunique.specs.Presentations.{AreRelations, IsCanonical, IsNoneSpare, Presents, Relation};
 ghost use Rattle.sg_laws_families.specs.Candidates.{IsBettiCandidate};
 
-/// Every Betti element is an Apery element of the first generator, and a later generator (Rosales and Garcia-Sanchez,
-/// Numerical Semigroups, chapter 7): all factorizations with the first place positive are in one class.
+/// Every Betti element is the sum of an Apery element of the first generator and a later generator (Rosales and
+/// Garcia-Sanchez, Numerical Semigroups, chapter 7): all factorizations with the first place positive are in one class.
 pub fn betti_elements_are_candidates()
     ensures candidate { (G : List ℕ) (n : ℕ) → All (λ g. 1 ≤ g) G → HasTwoClasses (IsFactorization G n) → IsBettiCandidate G n }
     ensures listed { (G t : List ℕ) (n : ℕ) → All (λ g. 1 ≤ g) G → IsApery G (slice_index G 0) t → HasTwoClasses (IsFactorization G n) →

@@ -3,5 +3,9 @@ pub mod Asking
 pub mod Fitting
 pub mod Naming
 pub mod MadeValues
+pub mod Weights
 pub mod OneReply
 pub mod SomeReply
+pub mod AfterLemmas
+pub mod EarlyLemmas
+pub mod NoLate

@@ -8,16 +8,16 @@ use Rattle.sg_value.specs.declared.value.Value.{Value}
 use Rattle.sg_value.specs.declared.value.Value.TheVariants as value
 use Rattle.std.specs.Prelude.{pos}
 use Rattle.sg_rows.specs.Made.{datum}
-use Rattle.sg_rows.specs.Order.{Delivers, InBits, IsReply, fits}
-use Rattle.sg_rows.specs.Replies.{Replies}
-use Rattle.sg_rows.specs.Values.{answers}
+use Rattle.sg_rows.specs.Order.{Delivers, InBits, IsReplyOf}
+use Rattle.sg_rows.specs.Replies.{RepliesOf}
+use Rattle.sg_rows.specs.Values.{answers, natural_list}
 use Rattle.sg_rows.specs.declared.fault.CallFault.TheVariants.{Script}
 use Rattle.sg_rows.specs.declared.fault.Fault.TheVariants.{TooLarge}
 use Rattle.sg_rows.specs.declared.made.Made.{Made}
-use Rattle.sg_rows.specs.declared.made.Made.TheVariants.{Integer, Natural, Truth, Integers, Naturals, Semigroup, Semigroups, Ideal}
-use Rattle.sg_rows.proofs.Listing.{delivers_integers, delivers_heavy_integers, delivers_naturals, delivers_heavy_naturals, delivers_semigroups, delivers_heavy_semigroups, plain_integers, plain_naturals, integers_known, naturals_known}
+use Rattle.sg_rows.specs.declared.made.Made.TheVariants.{Integer, Natural, Truth, Integers, Naturals, Vectors, Semigroup, Semigroups, Ideal}
+use Rattle.sg_rows.proofs.Listing.{delivers_integers, delivers_heavy_integers, delivers_naturals, delivers_heavy_naturals, delivers_semigroups, delivers_heavy_semigroups, delivers_vectors, delivers_heavy_vectors, plain_integers, plain_naturals, plain_vectors, integers_known, naturals_known, vectors_known}
 use Rattle.sg_rows.proofs.Replying.{answers_pass, delivered}
-use Rattle.sg_calls.specs.Delivered.{IsValueOf, entries_made}
+use Rattle.sg_calls.specs.Delivered.{IsValueOf, weight_made}
 
 -- ---- values by what was made
 
@@ -39,6 +39,16 @@ module _ (store : Known) where
       record {
         is = ap (data_map (thing_at (named store))) seen ∙ plain_naturals (thing_at (named store)) ns;
         known = subst (EachThing (IsKnown (named store))) (sym seen) (naturals_known (IsKnown (named store)) ns);
+        bits = tt;
+      }
+
+  -- a list of vectors
+  pub vectors_value : (ls : List (List ℕ)) (vs : List Value) (v : Value) → contents v ≡ list (contents_of_all vs) → contents_of_all vs ≡ items_of (map natural_list ls) → IsValueOf store (Vectors ls) v
+  vectors_value ls vs v is same =
+      let seen = is ∙ ap list same in
+      record {
+        is = ap (data_map (thing_at (named store))) seen ∙ plain_vectors (thing_at (named store)) ls;
+        known = subst (EachThing (IsKnown (named store))) (sym seen) (vectors_known (IsKnown (named store)) ls);
         bits = tt;
       }
 
@@ -64,9 +74,10 @@ module _ (store : Known) where
 delivers_single : {H : Kind → Type 0} (d : Data H) → InBits d → depth_of d ≡ 0 → weight_of d ≡ 1 → Delivers d (Ok d)
 delivers_single d bits flat light = inr ((λ f. f bits), inr ((λ deep. absurd (omega (arith, flat, deep))), inr ((λ heavy. absurd (omega (arith, light, heavy))), refl)))
 
-light_delivers : (m : Made) → InBits (datum m) → entries_made m < WEIGHT_LIMIT → Delivers (datum m) (Ok (datum m))
+light_delivers : (m : Made) → InBits (datum m) → weight_made m < WEIGHT_LIMIT → Delivers (datum m) (Ok (datum m))
 light_delivers (Integers zs) bits few = delivers_integers zs few
 light_delivers (Naturals ns) bits few = delivers_naturals ns few
+light_delivers (Vectors vs) bits few = delivers_vectors vs few
 light_delivers (Semigroups L) bits few = delivers_semigroups L few
 light_delivers (Integer z) bits few = delivers_single (int z) bits refl refl
 light_delivers (Natural n) bits few = delivers_single (int (pos n)) bits refl refl
@@ -75,17 +86,18 @@ light_delivers (Semigroup G) bits few = delivers_single (datum (Semigroup G)) bi
 light_delivers (Ideal G I) bits few = delivers_single (datum (Ideal G I)) bits refl refl
 
 -- the value of what is not too heavy is the reply
-pub value_replies : (store : Known) (m : Made) (v : Value) → IsValueOf store m v → entries_made m < WEIGHT_LIMIT → Replies (Ok v) store (fits (answers (λ d. d ≡ datum m)))
+pub value_replies : (store : Known) (m : Made) (v : Value) → IsValueOf store m v → weight_made m < WEIGHT_LIMIT → RepliesOf (Ok v) store (answers (λ d. d ≡ datum m))
 value_replies store m v h few =
     let row = answers (λ d. d ≡ datum m) in
-    (subst (λ d. IsReply (fits row) (Ok d)) (sym h.is) (delivered row (datum m) (Ok (datum m)) (answers_pass (λ d. d ≡ datum m)) refl (light_delivers m h.bits few)), h.known)
+    (subst (λ d. IsReplyOf row (Ok d)) (sym h.is) (delivered row (datum m) (Ok (datum m)) (answers_pass (λ d. d ≡ datum m)) refl (light_delivers m h.bits few)), h.known)
 
-delivers_too_heavy : (m : Made) → WEIGHT_LIMIT ≤ entries_made m → Delivers (datum m) (Err TooLarge)
+delivers_too_heavy : (m : Made) → WEIGHT_LIMIT ≤ weight_made m → Delivers (datum m) (Err TooLarge)
 delivers_too_heavy (Integers zs) many = delivers_heavy_integers zs many
 delivers_too_heavy (Naturals ns) many = delivers_heavy_naturals ns many
+delivers_too_heavy (Vectors vs) many = delivers_heavy_vectors vs many
 delivers_too_heavy (Semigroups L) many = delivers_heavy_semigroups L many
 delivers_too_heavy _ many = absurd (omega (arith, many))
 
 -- what is too heavy is refused
-pub heavy_replies : (store : Known) (m : Made) → WEIGHT_LIMIT ≤ entries_made m → Replies (Err (Script TooLarge)) store (fits (answers (λ d. d ≡ datum m)))
+pub heavy_replies : (store : Known) (m : Made) → WEIGHT_LIMIT ≤ weight_made m → RepliesOf (Err (Script TooLarge)) store (answers (λ d. d ≡ datum m))
 heavy_replies store m many = delivered (answers (λ d. d ≡ datum m)) (datum m) (Err TooLarge) (answers_pass (λ d. d ≡ datum m)) refl (delivers_too_heavy m many)

@@ -1,5 +1,5 @@
 -- Commands and operators have a reply, over what is lawful.
-use Rattle.std.proofs.Common.{◌≡◌, ℕ, ℤ, pos, List, Option, Some, None, Err, refl}
+use Rattle.std.proofs.Common.{◌≡◌, ℕ, ℤ, pos, List, Option, Some, None, Err, refl, [], ◌∷◌}
 use Rattle.std.specs.Prelude.{◌+ℤ◌, ◌-ℤ◌, ◌*ℤ◌, ◌≤ℤ◌, ◌<ℤ◌, ⊤}
 use Rattle.std.specs.Int.{int_rem_euclid}
 use Rattle.sg_value.specs.Plain.{Things}
@@ -7,7 +7,8 @@ use Rattle.sg_defs.specs.Membership.{IsIntegerMember}
 use Rattle.sg_laws_invariants.proofs.Decisions.{decided-eq_z, decided-le_z, decided-lt_z, decided-not}
 use Rattle.sg_laws_invariants.proofs.InvariantsExist.{integer_member-decided}
 use Rattle.sg_value.specs.Data.{int, Items}
-use Rattle.sg_rows.specs.Order.{Plain, IsReply}
+use Rattle.sg_rows.specs.Asks.{Asking, apery_table, nothing}
+use Rattle.sg_rows.specs.Order.{Plain, Case, IsReply, AreAsked}
 use Rattle.sg_rows.specs.Entries.{IsEntry, entry_count}
 use Rattle.sg_rows.specs.Forms.{on_integer_and_semigroup, on_integer_and_ideal, on_list_and_semigroup, on_two_ideals}
 use Rattle.sg_rows.specs.Kinds.{fitted, as_list, as_integer, two_integers}
@@ -34,7 +35,10 @@ use Rattle.sg_rows_ideals.specs.declared.facts.IdealFact.TheVariants.{Generators
 use Rattle.sg_rows_ideals.specs.declared.ideals.IdealCommand.TheVariants.{OfIdeal, OfTwoIdeals}
 use Rattle.sg_rows_ideals.specs.declared.pairs.Pair.TheVariants.{Difference, Sum}
 use Rattle.sg_rows_ideals.specs.declared.pairs.Pair.TheVariants as pair
+use Rattle.sg_rows_factorizations.proofs.SomeCommand.{command_some}
 use Rattle.sg_rows_ideals.proofs.SomeIdeal.{ideal_some, pair_some, generated_some, multiple_some, translate_some, member_some}
+use Rattle.sg_rows.proofs.AskLemmas.{some_asked}
+use Rattle.sg_calls.specs.Laws.{Combines}
 use Rattle.sg_calls.specs.Remainders.{IsRemainder}
 use Rattle.sg_calls.proofs.Remainders.{remainder_is}
 use Rattle.sg_calls.specs.Rows.{row}
@@ -42,7 +46,7 @@ use Rattle.sg_calls.specs.Operations.{operation, membership, moved_or_generated,
 use Rattle.sg_calls.specs.Commands.{checked, command_named}
 use Rattle.sg_calls.specs.Answers.{Answer, case_of, reply_unless}
 use Rattle.sg_calls.specs.declared.command.Command.{Command}
-use Rattle.sg_calls.specs.declared.command.Command.TheVariants.{Lists, Makers, Facts, Shapes, Ideals, Shared}
+use Rattle.sg_calls.specs.declared.command.Command.TheVariants.{Lists, Makers, Facts, Shapes, Ideals, Factorizations, Shared}
 use Rattle.sg_calls.specs.declared.command.Shared.TheVariants.{Intersection, MinimalGenerators}
 use Rattle.sg_calls.specs.declared.operator.Operator.{Operator}
 use Rattle.sg_calls.specs.declared.operator.Operator.TheVariants.{Plus, Less, Times, Mod, Eq, Ne, Lt, Le, Gt, Ge, Member}
@@ -65,60 +69,65 @@ of_integers_some op a b = given_some (λ p. ⊤) (two_integers a b) (λ p. calcu
 
 membership_some : (a b : Plain) → IsLawful b → SomeValue (membership a b)
 membership_some a b l =
-    let of_semigroup = on_integer_and_semigroup a b (λ x G. answers (whether (IsIntegerMember G x))) in
-    or_else_some (fitted (as_list b) (λ ds. answers (whether (IsEntry a ds)))) _
-    (fitted_some (λ ds. ⊤) (as_list b) (λ ds. answers (whether (IsEntry a ds))) (any_some (as_list b)) (λ ds u. answers_some _ (whether_some (IsEntry a ds) (entry-decided a ds))))
-    (or_else_some of_semigroup (on_integer_and_ideal a b member_row)
-    (on_integer_and_semigroup_some (λ x G. answers (whether (IsIntegerMember G x))) (λ x G g. answers_some _ (whether_some (IsIntegerMember G x) (integer_member-decided G x))) a b l)
-    (member_some a b l))
+    let of_semigroup = on_integer_and_semigroup (apery_table ∷ []) a b (λ x G. answers (whether (IsIntegerMember G x))) in
+    or_else_some (fitted (as_list b) nothing (λ ds. answers (whether (IsEntry a ds)))) _
+    (fitted_some (λ ds. ⊤) (as_list b) nothing (λ ds. answers (whether (IsEntry a ds))) (any_some (as_list b)) (λ ds u. answers_some _ (whether_some (IsEntry a ds) (entry-decided a ds))))
+    (or_else_some of_semigroup (on_integer_and_ideal (apery_table ∷ []) a b member_row)
+    (on_integer_and_semigroup_some (apery_table ∷ []) (λ x G. answers (whether (IsIntegerMember G x))) (λ x G g. answers_some _ (whether_some (IsIntegerMember G x) (integer_member-decided G x))) a b l)
+    (member_some (apery_table ∷ []) a b l))
 
 moved_some : (a b : Plain) → IsLawful b → SomeValue (moved_or_generated a b)
-moved_some a b l = or_else_some (on_integer_and_ideal a b translate_row) (on_list_and_semigroup a b generated_row) (translate_some a b l) (generated_some a b l)
+moved_some a b l = or_else_some (on_integer_and_ideal (apery_table ∷ []) a b translate_row) (on_list_and_semigroup (apery_table ∷ []) a b generated_row) (translate_some (apery_table ∷ []) a b l) (generated_some (apery_table ∷ []) a b l)
 
-operation_some : (op : Operator) (a b : Plain) → IsLawful a → IsLawful b → SomeValue (operation op a b)
-operation_some Eq a b l m = answers_some _ (whether_some (a ≡ b) (data-decided a b))
-operation_some Ne a b l m = answers_some _ (whether_some (a ≡ b → ⊥) (decided-not (a ≡ b) (data-decided a b)))
-operation_some Member a b l m = membership_some a b m
-operation_some Plus a b l m = or_else_some (of_integers Plus a b) _ (of_integers_some Plus a b) (or_else_some (on_two_ideals a b (pair_row Sum)) (moved_or_generated a b) (pair_some Sum a b l m) (moved_some a b m))
-operation_some Less a b l m = or_else_some (of_integers Less a b) (on_two_ideals a b (pair_row Difference)) (of_integers_some Less a b) (pair_some Difference a b l m)
-operation_some Times a b l m = or_else_some (of_integers Times a b) (on_integer_and_ideal a b multiple_row) (of_integers_some Times a b) (multiple_some a b m)
-operation_some Mod a b l m = of_integers_some Mod a b
-operation_some Lt a b l m = of_integers_some Lt a b
-operation_some Le a b l m = of_integers_some Le a b
-operation_some Gt a b l m = of_integers_some Gt a b
-operation_some Ge a b l m = of_integers_some Ge a b
+operation_some : (n : ℕ) (op : Operator) (a b : Plain) → IsLawful a → IsLawful b → SomeValue (operation n op a b)
+operation_some n Eq a b l m = answers_some _ (whether_some (a ≡ b) (data-decided a b))
+operation_some n Ne a b l m = answers_some _ (whether_some (a ≡ b → ⊥) (decided-not (a ≡ b) (data-decided a b)))
+operation_some n Member a b l m = membership_some a b m
+operation_some n Plus a b l m = or_else_some (of_integers Plus a b) _ (of_integers_some Plus a b) (or_else_some (on_two_ideals (apery_table ∷ []) a b (pair_row Sum)) (moved_or_generated a b) (pair_some (apery_table ∷ []) Sum a b l m) (moved_some a b m))
+operation_some n Less a b l m = or_else_some (of_integers Less a b) (on_two_ideals (apery_table ∷ []) a b (pair_row Difference)) (of_integers_some Less a b) (pair_some (apery_table ∷ []) Difference a b l m)
+operation_some n Times a b l m = or_else_some (of_integers Times a b) (on_integer_and_ideal (apery_table ∷ []) a b multiple_row) (of_integers_some Times a b) (multiple_some (apery_table ∷ []) a b m)
+operation_some n Mod a b l m = of_integers_some Mod a b
+operation_some n Lt a b l m = of_integers_some Lt a b
+operation_some n Le a b l m = of_integers_some Le a b
+operation_some n Gt a b l m = of_integers_some Gt a b
+operation_some n Ge a b l m = of_integers_some Ge a b
+
+-- with a reply, and what is asked for on the way to it
+pub asked_for : (c : Case) → SomeReply (IsReply c) → SomeReply (λ r. (asked : List Asking) × (IsReply c r × AreAsked c asked))
+asked_for c h = let a = some_asked c h.0 h.1 in (h.0, (a.0, (h.1, a.1)), h.2)
 
 -- an operator has a reply
-pub operators_some : (op : Operator) (a b : Plain) → IsLawful a → IsLawful b → SomeReply (IsReply (operation op a b))
-operators_some op a b l m = reply_some (operation op a b) (operation_some op a b l m)
+pub operators_some : (n : ℕ) (op : Operator) (a b : Plain) → IsLawful a → IsLawful b → SomeReply (λ r. (asked : List Asking) × Combines n op a b r asked)
+operators_some n op a b l m = asked_for (operation n op a b) (reply_some (operation n op a b) (operation_some n op a b l m))
 
 -- the minus sign has one
 pub sign_some : (a : Plain) → SomeReply (IsReply (negation a))
-sign_some a = reply_some (negation a) (fitted_some (λ x. ⊤) (as_integer a) _ (any_some (as_integer a)) (λ x l. answers_some _ (is_some_value (int (pos 0 -ℤ x)) tt)))
+sign_some a = reply_some (negation a) (fitted_some (λ x. ⊤) (as_integer a) nothing _ (any_some (as_integer a)) (λ x l. answers_some _ (is_some_value (int (pos 0 -ℤ x)) tt)))
 
 -- ---- commands
 
 -- the row of a command has a value
-pub row_some : (c : Command) (args : Items Things) → AreLawful args → SomeValue (row c args)
-row_some (Lists c) args l = list_some c args l
-row_some (Makers c) args l = maker_some c args l
-row_some (Facts c) args l = fact_some c args l
-row_some (Shapes c) args l = shape_some c args l
-row_some (Ideals c) args l = ideal_some c args l
-row_some (Shared Intersection) args l =
+pub row_some : (n : ℕ) (c : Command) (args : Items Things) → AreLawful args → SomeValue (row n c args)
+row_some n (Lists c) args l = list_some c args l
+row_some n (Makers c) args l = maker_some c args l
+row_some n (Facts c) args l = fact_some c args l
+row_some n (Shapes c) args l = shape_some c args l
+row_some n (Ideals c) args l = ideal_some c args l
+row_some n (Factorizations c) args l = command_some c args l
+row_some n (Shared Intersection) args l =
     or_else_some (makers.case_of maker.Intersection args) (ideals.case_of (OfTwoIdeals pair.Intersection) args) (maker_some maker.Intersection args l) (ideal_some (OfTwoIdeals pair.Intersection) args l)
-row_some (Shared MinimalGenerators) args l =
+row_some n (Shared MinimalGenerators) args l =
     let of_semigroup = fact.OfGenerators generators.MinimalGenerators in
     or_else_some (facts.case_of of_semigroup args) (ideals.case_of (OfIdeal Generators) args) (fact_some of_semigroup args l) (ideal_some (OfIdeal Generators) args l)
 
-case_some : (c : Option Command) (args : Items Things) → AreLawful args → SomeValue (case_of c args)
-case_some None args h = tt
-case_some (Some c) args h = row_some c args h
+case_some : (n : ℕ) (c : Option Command) (args : Items Things) → AreLawful args → SomeValue (case_of n c args)
+case_some n None args h = tt
+case_some n (Some c) args h = row_some n c args h
 
-unless_some : (o : Option Fault) (args : Items Things) (c : Option Command) → AreLawful args → SomeReply (reply_unless o args c)
-unless_some (Some e) args c h = (Err e, refl, tt)
-unless_some None args c h = reply_some (case_of c args) (case_some c args h)
+unless_some : (n : ℕ) (o : Option Fault) (args : Items Things) (c : Option Command) → AreLawful args → SomeReply (λ r. (asked : List Asking) × reply_unless n o args c r asked)
+unless_some n (Some e) args c h = (Err e, ([], (refl, refl)), tt)
+unless_some n None args c h = asked_for (case_of n c args) (reply_some (case_of n c args) (case_some n c args h))
 
 -- a command has a reply
-pub commands_some : (name : List ℕ) (args : Items Things) → AreLawful args → SomeReply (Answer name args)
-commands_some name args h = unless_some (checked name (entry_count args)) args (command_named name) h
+pub commands_some : (n : ℕ) (name : List ℕ) (args : Items Things) → AreLawful args → SomeReply (λ r. (asked : List Asking) × Answer n name args r asked)
+commands_some n name args h = unless_some n (checked name (entry_count args)) args (command_named name) h

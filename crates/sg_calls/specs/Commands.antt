@@ -10,8 +10,9 @@ use Rattle.sg_rows_constructors.specs.Makers as makers
 use Rattle.sg_rows_invariants.specs.Facts as facts
 use Rattle.sg_rows_symmetry.specs.Shapes as shapes
 use Rattle.sg_rows_ideals.specs.Ideals as ideals
+use Rattle.sg_rows_factorizations.specs.Commands as factorizations
 use Rattle.sg_calls.specs.declared.command.Command.{Command}
-use Rattle.sg_calls.specs.declared.command.Command.TheVariants.{Lists, Makers, Facts, Shapes, Ideals, Shared}
+use Rattle.sg_calls.specs.declared.command.Command.TheVariants.{Lists, Makers, Facts, Shapes, Ideals, Factorizations, Shared}
 use Rattle.sg_calls.specs.declared.command.Shared.TheVariants.{Intersection, MinimalGenerators}
 use Rattle.sg_calls.specs.declared.command.Folding.TheVariants.{EachValue, ThoseTrue, AllTrue, AnyTrue, CountTrue}
 use Rattle.sg_calls.specs.declared.command.Word.{Word}
@@ -37,7 +38,8 @@ family_command name =
     (option_or (option_map Makers (makers.named name))
     (option_or (option_map Facts (facts.named name))
     (option_or (option_map Shapes (shapes.named name))
-    (option_map Ideals (ideals.named name)))))
+    (option_or (option_map Ideals (ideals.named name))
+    (option_map Factorizations (factorizations.named name))))))
 
 -- what a name stands for
 unfoldable pub word_named : List ℕ → Option Word
@@ -58,6 +60,7 @@ takes (Makers c) n = makers.takes c n
 takes (Facts c) n = facts.takes c n
 takes (Shapes c) n = shapes.takes c n
 takes (Ideals c) n = ideals.takes c n
+takes (Factorizations c) n = factorizations.takes c n
 takes (Shared Intersection) n = nat_eq n 2
 takes (Shared MinimalGenerators) n = nat_eq n 1
 

@@ -4,12 +4,12 @@ use Rattle.sg_value.specs.Known.{Known, named}
 use Rattle.sg_value.specs.Plain.{AllKnown, plain}
 use Rattle.sg_value.specs.declared.value.Value.{Value}
 use Rattle.sg_rows.specs.Made.{datum}
-use Rattle.sg_rows.specs.Order.{InBits, fits}
-use Rattle.sg_rows.specs.Replies.{Replies}
-use Rattle.sg_rows.specs.Values.{answers}
+use Rattle.sg_rows.specs.Order.{InBits}
+use Rattle.sg_rows.specs.Replies.{RepliesOf}
+use Rattle.sg_rows.specs.Values.{answers, weight_of_vectors}
 use Rattle.sg_rows.specs.declared.fault.CallFault.{CallFault}
 use Rattle.sg_rows.specs.declared.made.Made.{Made}
-use Rattle.sg_rows.specs.declared.made.Made.TheVariants.{Integers, Naturals, Semigroups}
+use Rattle.sg_rows.specs.declared.made.Made.TheVariants.{Integers, Naturals, Vectors, Semigroups}
 
 -- the value stands for what was made, and each id in it is known
 pub record IsValueOf (store : Known) (m : Made) (v : Value) : Type 0 where
@@ -17,14 +17,15 @@ pub record IsValueOf (store : Known) (m : Made) (v : Value) : Type 0 where
   pub known : AllKnown (named store) v
   pub bits : InBits (datum m)
 
--- the number of entries, where it is a list
-abbrev pub entries_made : Made → ℕ
-entries_made (Integers zs) = length zs
-entries_made (Naturals ns) = length ns
-entries_made (Semigroups L) = length L
-entries_made _ = 0
+-- the weight of the entries, where it is a list: their number, and for vectors that of their places too
+abbrev pub weight_made : Made → ℕ
+weight_made (Integers zs) = length zs
+weight_made (Naturals ns) = length ns
+weight_made (Vectors vs) = weight_of_vectors vs
+weight_made (Semigroups L) = length L
+weight_made _ = 0
 
 -- what was made is the reply, or its refusal where it is too heavy; else it is the refusal of the row
 abbrev pub IsDelivered : Result Made CallFault → Known → Result Value CallFault → Type 0
-IsDelivered (Ok m) store r = Replies r store (fits (answers (λ d. d ≡ datum m)))
+IsDelivered (Ok m) store r = RepliesOf r store (answers (λ d. d ≡ datum m))
 IsDelivered (Err e) store r = r ≡ Err e

@@ -6,3 +6,5 @@ pub mod Rows
 pub mod Operations
 pub mod Answers
 pub mod Laws
+pub mod After
+pub mod Early

@@ -1,4 +1,5 @@
 -- Which row answers which command.
+use Rattle.std.specs.Prelude.{ℕ}
 use Rattle.sg_value.specs.Plain.{Things}
 use Rattle.sg_value.specs.Data.{Items}
 use Rattle.sg_rows.specs.Alternatives.{or_else}
@@ -11,19 +12,27 @@ use Rattle.sg_rows_invariants.specs.declared.fact.Fact.TheVariants as fact
 use Rattle.sg_rows_invariants.specs.declared.fact.GeneratorsFact.TheVariants as generators
 use Rattle.sg_rows_symmetry.specs.Shapes as shapes
 use Rattle.sg_rows_ideals.specs.Ideals as ideals
+use Rattle.sg_rows_factorizations.specs.Commands as factorizations
 use Rattle.sg_rows_ideals.specs.declared.facts.IdealFact.TheVariants.{Generators}
 use Rattle.sg_rows_ideals.specs.declared.ideals.IdealCommand.TheVariants.{OfIdeal, OfTwoIdeals}
 use Rattle.sg_rows_ideals.specs.declared.pairs.Pair.TheVariants as pair
 use Rattle.sg_calls.specs.declared.command.Command.{Command}
-use Rattle.sg_calls.specs.declared.command.Command.TheVariants.{Lists, Makers, Facts, Shapes, Ideals, Shared}
+use Rattle.sg_calls.specs.declared.command.Command.TheVariants.{Lists, Makers, Facts, Shapes, Ideals, Factorizations}
+use Rattle.sg_calls.specs.declared.command.Command.TheVariants as command
+use Rattle.sg_calls.specs.declared.command.Shared.{Shared}
 use Rattle.sg_calls.specs.declared.command.Shared.TheVariants.{Intersection, MinimalGenerators}
 
--- what the row of a command says of arguments: one that semigroups and ideals have in common, first of semigroups
-abbrev pub row : Command → Items Things → Case
-row (Lists c) args = lists.case_of c args
-row (Makers c) args = makers.case_of c args
-row (Facts c) args = facts.case_of c args
-row (Shapes c) args = shapes.case_of c args
-row (Ideals c) args = ideals.case_of c args
-row (Shared Intersection) args = or_else (makers.case_of maker.Intersection args) (ideals.case_of (OfTwoIdeals pair.Intersection) args)
-row (Shared MinimalGenerators) args = or_else (facts.case_of (fact.OfGenerators generators.MinimalGenerators) args) (ideals.case_of (OfIdeal Generators) args)
+-- what a command that semigroups and ideals have in common says of arguments, first of semigroups
+abbrev pub shared_case : Shared → Items Things → Case
+shared_case Intersection args = or_else (makers.case_of maker.Intersection args) (ideals.case_of (OfTwoIdeals pair.Intersection) args)
+shared_case MinimalGenerators args = or_else (facts.case_of (fact.OfGenerators generators.MinimalGenerators) args) (ideals.case_of (OfIdeal Generators) args)
+
+-- what the row of a command says of arguments, within a budget of steps that no row counts yet
+abbrev pub row : ℕ → Command → Items Things → Case
+row budget (Lists c) args = lists.case_of c args
+row budget (Makers c) args = makers.case_of c args
+row budget (Facts c) args = facts.case_of c args
+row budget (Shapes c) args = shapes.case_of c args
+row budget (Ideals c) args = ideals.case_of c args
+row budget (Factorizations c) args = factorizations.case_of c args
+row budget (command.Shared s) args = shared_case s args

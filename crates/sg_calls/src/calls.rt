@@ -5,14 +5,16 @@ ghost use Rattle.sg_value.specs.Known.{Known, named};
 ghost use Rattle.sg_value.specs.Plain.{AllKnownIn, plain_of_all};
 ghost use Rattle.sg_store.specs.Interned.{Keeps};
 ghost use Rattle.sg_calls.specs.Commands.{checked, command_named, takes};
-ghost use Rattle.sg_calls.specs.Rows.{row};
+ghost use Rattle.sg_calls.specs.After.{Asked, Asks};
+ghost use Rattle.sg_calls.specs.Early.{early_of};
+ghost use Rattle.sg_calls.specs.Rows.{row, shared_case};
 ghost use Rattle.sg_rows.specs.Replies.{Replies};
 ghost use Rattle.sg_calls.specs.Answers.{case_of};
 
 use crate::asks::{one_list_of_generators, two_tables};
 use crate::command::{Command, Shared, command_named};
 use crate::delivering::deliver;
-use crate::families::{on_facts, on_ideals, on_lists, on_makers, on_shapes};
+use crate::families::{on_factorizations, on_facts, on_ideals, on_lists, on_makers, on_shapes};
 use sg_rows::{CallFault, Fault, OfGenerators};
 use sg_rows_constructors::intersection;
 use sg_rows_ideals::{IdealCommand, IdealFact, Pair};
@@ -23,13 +25,14 @@ use std::alloc::Global;
 
 /// The members of both semigroups, or else of both ideals.
 fn of_intersection(alloc: Global, store: &mut Store, args: &[Value]) -> Result<Value, CallFault>
-    requires known { AllKnownIn (named store.old) args.now }
+    requires known { AllKnownIn (named store.old.ids) args.now }
     requires count { length args.now ≡ 2 }
-    ensures reply { Replies result store.new (row (Command.Shared Shared.Intersection) (plain_of_all (named store.old) args.now)) }
-    ensures keeps { Keeps store.old store.new }
+    ensures reply { Replies result store.new.ids (shared_case Shared.Intersection (plain_of_all (named store.old.ids) args.now)) }
+    ensures keeps { Keeps store.old.ids store.new.ids }
+    ensures asked { Asked result (early_of (shared_case Shared.Intersection (plain_of_all (named store.old.ids) args.now))) store.old.attributes store.new.attributes }
 {
     match two_tables(alloc, store, &args[0], &args[1])? {
-        Some((one, other)) => deliver(alloc, store, intersection(alloc, &one, &other)),
+        Some((one, other)) => deliver(alloc, &mut store.ids, intersection(alloc, &one, &other)),
         None => on_ideals(
             alloc,
             store,
@@ -45,11 +48,12 @@ fn of_minimal_generators(
     store: &mut Store,
     args: &[Value],
 ) -> Result<Value, CallFault>
-    requires { AllKnownIn (named store.old) args.now }
-    ensures reply { Replies result store.new (row (Command.Shared Shared.MinimalGenerators) (plain_of_all (named store.old) args.now)) }
-    ensures keeps { Keeps store.old store.new }
+    requires { AllKnownIn (named store.old.ids) args.now }
+    ensures reply { Replies result store.new.ids (shared_case Shared.MinimalGenerators (plain_of_all (named store.old.ids) args.now)) }
+    ensures keeps { Keeps store.old.ids store.new.ids }
+    ensures asked { Asked result (early_of (shared_case Shared.MinimalGenerators (plain_of_all (named store.old.ids) args.now))) store.old.attributes store.new.attributes }
 {
-    let Some(generators) = one_list_of_generators(store, args) else {
+    let Some(generators) = one_list_of_generators(&store.ids, args) else {
         return on_ideals(
             alloc,
             store,
@@ -58,48 +62,73 @@ fn of_minimal_generators(
         );
     };
     let told = GeneratorsFact::MinimalGenerators.tell(alloc, generators);
-    deliver(alloc, store, told)
+    deliver(alloc, &mut store.ids, told)
 }
 
-/// What the row of a command answers. Known ids go on to stand for what they stood for, and each id in the value is
-/// known.
+/// The commands that semigroups and ideals have in common.
+fn on_shared(
+    alloc: Global,
+    store: &mut Store,
+    shared: Shared,
+    args: &[Value],
+) -> Result<Value, CallFault>
+    requires count { takes (Command.Shared shared) (length args.now) ≡ true }
+    requires known { AllKnownIn (named store.old.ids) args.now }
+    ensures reply { Replies result store.new.ids (shared_case shared (plain_of_all (named store.old.ids) args.now)) }
+    ensures keeps { Keeps store.old.ids store.new.ids }
+    ensures asked { Asked result (early_of (shared_case shared (plain_of_all (named store.old.ids) args.now))) store.old.attributes store.new.attributes }
+{
+    match shared {
+        Shared::Intersection => of_intersection(alloc, store, args),
+        Shared::MinimalGenerators => of_minimal_generators(alloc, store, args),
+    }
+}
+
+/// What the row of a command answers, within a budget of steps that no row counts yet. Known ids go on to stand for what
+/// they stood for, and each id in the value is known. What the row asks for is asked for in its order, also where the
+/// row refuses.
 pub fn perform(
     alloc: Global,
     store: &mut Store,
     command: Command,
     args: &[Value],
+    budget: u64,
 ) -> Result<Value, CallFault>
     requires count { takes command (length args.now) ≡ true }
-    requires known { AllKnownIn (named store.old) args.now }
-    ensures reply { Replies result store.new (row command (plain_of_all (named store.old) args.now)) }
-    ensures keeps { Keeps store.old store.new }
+    requires known { AllKnownIn (named store.old.ids) args.now }
+    ensures reply { Replies result store.new.ids (row budget command (plain_of_all (named store.old.ids) args.now)) }
+    ensures keeps { Keeps store.old.ids store.new.ids }
+    ensures asks { Asks result (row budget command (plain_of_all (named store.old.ids) args.now)) store.old.attributes store.new.attributes }
 {
     match command {
-        Command::Lists(command) => on_lists(alloc, store, command, args),
+        Command::Lists(command) => on_lists(alloc, &mut store.ids, command, args),
         Command::Makers(maker) => on_makers(alloc, store, maker, args),
         Command::Facts(fact) => on_facts(alloc, store, fact, args),
         Command::Shapes(shape) => on_shapes(alloc, store, shape, args),
         Command::Ideals(command) => on_ideals(alloc, store, command, args),
-        Command::Shared(Shared::Intersection) => of_intersection(alloc, store, args),
-        Command::Shared(Shared::MinimalGenerators) => of_minimal_generators(alloc, store, args),
+        Command::Factorizations(command) => on_factorizations(alloc, store, command, args),
+        Command::Shared(shared) => on_shared(alloc, store, shared, args),
     }
 }
 
 /// What a command answers: its value, or the first refusal that comes once its name and the number of its arguments
-/// are right. Known ids go on to stand for what they stood for, and each id in the value is known.
+/// are right. Known ids go on to stand for what they stood for, and each id in the value is known. What the row asks for
+/// is asked for in its order, also where the row refuses.
 pub fn answer(
     alloc: Global,
     store: &mut Store,
     command: &[u8],
     args: &[Value],
+    budget: u64,
 ) -> Result<Value, CallFault>
     requires checked { checked command.now (length args.now) ≡ None }
-    requires known { AllKnownIn (named store.old) args.now }
-    ensures reply { Replies result store.new (case_of (command_named command.now) (plain_of_all (named store.old) args.now)) }
-    ensures keeps { Keeps store.old store.new }
+    requires known { AllKnownIn (named store.old.ids) args.now }
+    ensures reply { Replies result store.new.ids (case_of budget (command_named command.now) (plain_of_all (named store.old.ids) args.now)) }
+    ensures keeps { Keeps store.old.ids store.new.ids }
+    ensures asks { Asks result (case_of budget (command_named command.now) (plain_of_all (named store.old.ids) args.now)) store.old.attributes store.new.attributes }
 {
     match command_named(command) {
-        Some(found) => perform(alloc, store, found, args),
+        Some(found) => perform(alloc, store, found, args, budget),
         None => Err(CallFault::Script(Fault::UnknownName)),
     }
 }

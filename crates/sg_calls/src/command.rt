@@ -5,6 +5,7 @@ ghost use Rattle.sg_calls.specs.Commands.{word_named, family_command, command_na
 
 use sg_rows::{Fault, Named, find};
 use sg_rows_constructors::Maker;
+use sg_rows_factorizations::FactorizationCommand;
 use sg_rows_ideals::IdealCommand;
 use sg_rows_invariants::Fact;
 use sg_rows_lists::ListCommand;
@@ -23,6 +24,8 @@ pub enum Command {
     Shapes(Shape),
     /// On relative ideals.
     Ideals(IdealCommand),
+    /// On factorizations of elements.
+    Factorizations(FactorizationCommand),
     /// On semigroups or on ideals.
     Shared(Shared),
 }
@@ -96,7 +99,10 @@ fn family_command(name: &[u8]) -> Option<Command>
     if let Some(shape) = sg_rows_symmetry::named(name) {
         return Some(Command::Shapes(shape));
     }
-    Some(Command::Ideals(sg_rows_ideals::named(name)?))
+    if let Some(command) = sg_rows_ideals::named(name) {
+        return Some(Command::Ideals(command));
+    }
+    Some(Command::Factorizations(sg_rows_factorizations::named(name)?))
 }
 
 /// What this name stands for.
@@ -129,6 +135,7 @@ pub fn takes(command: Command, count: usize) -> bool
         Command::Facts(fact) => sg_rows_invariants::takes(fact, count),
         Command::Shapes(shape) => sg_rows_symmetry::takes(shape, count),
         Command::Ideals(command) => sg_rows_ideals::takes(command, count),
+        Command::Factorizations(command) => sg_rows_factorizations::takes(command, count),
         Command::Shared(Shared::Intersection) => count == 2,
         Command::Shared(Shared::MinimalGenerators) => count == 1,
     }

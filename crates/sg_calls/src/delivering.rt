@@ -1,17 +1,19 @@
 //! What rows made, as values over a store: the one place where semigroups and ideals get their ids.
 
-ghost use Rattle.std.specs.Prelude.{◌≡◌, ◌<◌, ◌^◌, ℕ, List, IfOk, All, pos, map, EachIndex, slice_index};
+ghost use Rattle.std.specs.Prelude.{◌≡◌, ◌≤◌, ◌↔◌, ℕ, IfOk, IsTrue, All, pos, map};
 ghost use Rattle.sg_lawful.specs.Lawful.{IsLawfulList, IsLawfulIdeal};
 ghost use Rattle.sg_value.specs.Data.{int, list, semigroup, items_of};
 ghost use Rattle.sg_value.specs.Known.{Known, named};
 ghost use Rattle.sg_value.specs.Plain.{AllKnownIn, contents, contents_of_all, plain_of_all};
 ghost use Rattle.sg_store.specs.Interned.{Keeps};
-ghost use Rattle.sg_rows.specs.Made.{IsSound};
-ghost use Rattle.sg_calls.specs.Delivered.{IsDelivered, IsValueOf, entries_made};
+ghost use Rattle.sg_rows.specs.Made.{AreWithinBits, IsSound};
+ghost use Rattle.sg_rows.specs.Values.{natural_list, weight_of_vectors};
+ghost use Rattle.sg_value.specs.declared.limits.TheConstants.{WEIGHT_LIMIT};
+ghost use Rattle.sg_calls.specs.Delivered.{IsDelivered, IsValueOf, weight_made};
 
 use sg_nat::{Ints, Nats};
 use sg_rows::{CallFault, Fault, Made, is_heavy};
-use sg_store::Store;
+use sg_store::Ids;
 use sg_value::{Items, Value};
 use std::alloc::{AllocError, Global};
 
@@ -28,7 +30,7 @@ fn integer_values(alloc: Global, zs: &[i64]) -> Result<Vec<Value>, AllocError>
 
 /// Each natural as a value.
 fn natural_values(alloc: Global, ns: &[u64]) -> Result<Vec<Value>, AllocError>
-    requires { EachIndex ns.now (λ k. slice_index ns.now k < 2 ^ 63) }
+    requires { AreWithinBits ns.now }
     ensures { IfOk result (λ vs. contents_of_all vs.items ≡ items_of (map (λ n. int (pos n)) ns.now)) }
 {
     let mut values = Vec::with_capacity(alloc, ns.len())?;
@@ -38,20 +40,36 @@ fn natural_values(alloc: Global, ns: &[u64]) -> Result<Vec<Value>, AllocError>
     Ok(values)
 }
 
+/// A list of naturals as a value.
+fn naturals_value(alloc: Global, ns: &[u64]) -> Result<Value, AllocError>
+    requires { AreWithinBits ns.now }
+    ensures { IfOk result (λ v. contents v ≡ natural_list ns.now) }
+{
+    list_value(alloc, natural_values(alloc, ns)?)
+}
+
+/// Each vector as a value.
+fn vector_values(alloc: Global, vectors: &[Nats]) -> Result<Vec<Value>, AllocError>
+    requires { All AreWithinBits vectors.now }
+    ensures { IfOk result (λ vs. contents_of_all vs.items ≡ items_of (map natural_list vectors.now)) }
+{
+    let mut values = Vec::with_capacity(alloc, vectors.len())?;
+    for vector in vectors {
+        values.push(naturals_value(alloc, vector.as_slice())?)?;
+    }
+    Ok(values)
+}
+
 /// Each semigroup as a value, by its old id where it is known.
-fn semigroup_values(
-    alloc: Global,
-    store: &mut Store,
-    lists: &[Nats],
-) -> Result<Vec<Value>, AllocError>
+fn semigroup_values(alloc: Global, ids: &mut Ids, lists: &[Nats]) -> Result<Vec<Value>, AllocError>
     requires { All IsLawfulList lists.now }
-    ensures plain { IfOk result (λ vs. plain_of_all (named store.new) vs.items ≡ items_of (map semigroup lists.now)) }
-    ensures known { IfOk result (λ vs. AllKnownIn (named store.new) vs.items) }
-    ensures keeps { Keeps store.old store.new }
+    ensures plain { IfOk result (λ vs. plain_of_all (named ids.new) vs.items ≡ items_of (map semigroup lists.now)) }
+    ensures known { IfOk result (λ vs. AllKnownIn (named ids.new) vs.items) }
+    ensures keeps { Keeps ids.old ids.new }
 {
     let mut values = Vec::with_capacity(alloc, lists.len())?;
     for list in lists {
-        values.push(Value::Sem(store.intern(list.try_clone()?)?))?;
+        values.push(Value::Sem(ids.intern(list.try_clone()?)?))?;
     }
     Ok(values)
 }
@@ -64,29 +82,29 @@ fn list_value(alloc: Global, values: Vec<Value>) -> Result<Value, AllocError>
 }
 
 /// A semigroup as a value, by its old id where it is known.
-fn semigroup_value(store: &mut Store, generators: Nats) -> Result<Value, AllocError>
+fn semigroup_value(ids: &mut Ids, generators: Nats) -> Result<Value, AllocError>
     requires { IsLawfulList generators }
-    ensures value { IfOk result (IsValueOf store.new (Made.Semigroup generators)) }
-    ensures keeps { Keeps store.old store.new }
+    ensures value { IfOk result (IsValueOf ids.new (Made.Semigroup generators)) }
+    ensures keeps { Keeps ids.old ids.new }
 {
-    Ok(Value::Sem(store.intern(generators)?))
+    Ok(Value::Sem(ids.intern(generators)?))
 }
 
 /// An ideal as a value, by its old id where it is known.
-fn ideal_value(store: &mut Store, ambient: Nats, generators: Ints) -> Result<Value, AllocError>
+fn ideal_value(ids: &mut Ids, ambient: Nats, generators: Ints) -> Result<Value, AllocError>
     requires { IsLawfulIdeal ambient generators }
-    ensures value { IfOk result (IsValueOf store.new (Made.Ideal ambient generators)) }
-    ensures keeps { Keeps store.old store.new }
+    ensures value { IfOk result (IsValueOf ids.new (Made.Ideal ambient generators)) }
+    ensures keeps { Keeps ids.old ids.new }
 {
-    let ambient = store.intern(ambient)?;
-    Ok(Value::Ideal(store.intern_ideal(ambient, generators)?))
+    let ambient = ids.intern(ambient)?;
+    Ok(Value::Ideal(ids.intern_ideal(ambient, generators)?))
 }
 
 /// What a row made as a value.
-fn value_of(alloc: Global, store: &mut Store, made: Made) -> Result<Value, AllocError>
+fn value_of(alloc: Global, ids: &mut Ids, made: Made) -> Result<Value, AllocError>
     requires { IsSound made }
-    ensures value { IfOk result (IsValueOf store.new made) }
-    ensures keeps { Keeps store.old store.new }
+    ensures value { IfOk result (IsValueOf ids.new made) }
+    ensures keeps { Keeps ids.old ids.new }
 {
     match made {
         Made::Integer(z) => Ok(Value::Int(z)),
@@ -94,23 +112,39 @@ fn value_of(alloc: Global, store: &mut Store, made: Made) -> Result<Value, Alloc
         Made::Truth(holds) => Ok(Value::Bool(holds)),
         Made::Integers(zs) => list_value(alloc, integer_values(alloc, zs.as_slice())?),
         Made::Naturals(ns) => list_value(alloc, natural_values(alloc, ns.as_slice())?),
-        Made::Semigroup(generators) => semigroup_value(store, generators),
+        Made::Vectors(vectors) => list_value(alloc, vector_values(alloc, vectors.as_slice())?),
+        Made::Semigroup(generators) => semigroup_value(ids, generators),
         Made::Semigroups(lists) => {
-            list_value(alloc, semigroup_values(alloc, store, lists.as_slice())?)
+            list_value(alloc, semigroup_values(alloc, ids, lists.as_slice())?)
         }
-        Made::Ideal(ambient, generators) => ideal_value(store, ambient, generators),
+        Made::Ideal(ambient, generators) => ideal_value(ids, ambient, generators),
     }
 }
 
-/// The number of entries, where a list was made.
-fn entry_count(made: &Made) -> usize
-    ensures { result ≡ entries_made made.now }
+/// Whether vectors are too heavy for a list of lists: each weighs 1 more than it has places.
+fn are_heavy(vectors: &[Nats]) -> bool
+    ensures { IsTrue result ↔ (WEIGHT_LIMIT ≤ weight_of_vectors vectors.now) }
+{
+    let mut weight = 0u64;
+    for vector in vectors {
+        weight += vector.as_slice().len() as u64 + 1;
+        if is_heavy(weight) {
+            return true;
+        }
+    }
+    false
+}
+
+/// Whether a list that was made is too heavy for a value.
+fn is_too_heavy(made: &Made) -> bool
+    ensures { IsTrue result ↔ (WEIGHT_LIMIT ≤ weight_made made.now) }
 {
     match made {
-        Made::Integers(zs) => zs.as_slice().len(),
-        Made::Naturals(ns) => ns.as_slice().len(),
-        Made::Semigroups(lists) => lists.as_slice().len(),
-        _ => 0,
+        Made::Integers(zs) => is_heavy(zs.as_slice().len() as u64),
+        Made::Naturals(ns) => is_heavy(ns.as_slice().len() as u64),
+        Made::Vectors(vectors) => are_heavy(vectors.as_slice()),
+        Made::Semigroups(lists) => is_heavy(lists.as_slice().len() as u64),
+        _ => false,
     }
 }
 
@@ -118,16 +152,16 @@ fn entry_count(made: &Made) -> usize
 /// refused before it is built.
 pub fn deliver(
     alloc: Global,
-    store: &mut Store,
+    ids: &mut Ids,
     told: Result<Made, CallFault>,
 ) -> Result<Value, CallFault>
     requires { IfOk told IsSound }
-    ensures delivered { IsDelivered told store.new result }
-    ensures keeps { Keeps store.old store.new }
+    ensures delivered { IsDelivered told ids.new result }
+    ensures keeps { Keeps ids.old ids.new }
 {
     match told {
-        Ok(made) if is_heavy(entry_count(&made) as u64) => Err(CallFault::Script(Fault::TooLarge)),
-        Ok(made) => Ok(value_of(alloc, store, made)?),
+        Ok(made) if is_too_heavy(&made) => Err(CallFault::Script(Fault::TooLarge)),
+        Ok(made) => Ok(value_of(alloc, ids, made)?),
         Err(fault) => Err(fault),
     }
 }

@@ -6,10 +6,11 @@ ghost use Rattle.sg_value.specs.Data.{int};
 ghost use Rattle.sg_value.specs.Known.{Known, named};
 ghost use Rattle.sg_value.specs.Plain.{AllKnown, plain};
 ghost use Rattle.sg_store.specs.Interned.{Keeps};
-ghost use Rattle.sg_rows.specs.Order.{fits};
 ghost use Rattle.sg_rows.specs.Values.{answers};
-ghost use Rattle.sg_rows.specs.Replies.{Replies};
-ghost use Rattle.sg_calls.specs.Operations.{calculation, of_integers, operation, moved_or_generated, negation};
+ghost use Rattle.sg_rows.specs.Replies.{Replies, RepliesOf};
+ghost use Rattle.sg_calls.specs.After.{Asked, Asks};
+ghost use Rattle.sg_calls.specs.Early.{early_of};
+ghost use Rattle.sg_calls.specs.Operations.{calculation, of_integers, operation, addition, subtraction, multiplication, moved_or_generated, negation};
 ghost use Rattle.sg_calls.specs.Remainders.{IsRemainder};
 
 use crate::asks::{integer_then_ideal, list_then_table, two_ideals};
@@ -35,7 +36,7 @@ pub fn remainder(x: i64, y: i64) -> Option<i64>
 
 /// The integer, or that it is outside of 64 bits.
 fn integer(found: Option<i64>) -> Result<Value, CallFault>
-    ensures { (store : Known) (z : ℤ) → SomeIff found (FitsSigned w64 z) z → Replies result store (fits (answers (λ d. d ≡ int z))) }
+    ensures { (store : Known) (z : ℤ) → SomeIff found (FitsSigned w64 z) z → RepliesOf result store (answers (λ d. d ≡ int z)) }
 {
     match found {
         Some(z) => Ok(Value::Int(z)),
@@ -83,26 +84,36 @@ fn on_ideal_or_list(
     a: &Value,
     b: &Value,
 ) -> Result<Value, CallFault>
-    requires right { AllKnown (named store.old) b.now }
-    ensures reply { Replies result store.new (moved_or_generated (plain (named store.old) a.now) (plain (named store.old) b.now)) }
-    ensures keeps { Keeps store.old store.new }
+    requires right { AllKnown (named store.old.ids) b.now }
+    ensures reply { Replies result store.new.ids (moved_or_generated (plain (named store.old.ids) a.now) (plain (named store.old.ids) b.now)) }
+    ensures keeps { Keeps store.old.ids store.new.ids }
+    ensures asked { Asked result (early_of (moved_or_generated (plain (named store.old.ids) a.now) (plain (named store.old.ids) b.now))) store.old.attributes store.new.attributes }
 {
     if let Some((by, (table, ideal))) = integer_then_ideal(alloc, store, a, b)? {
-        return deliver(alloc, store, translate_of(alloc, by, &table, &ideal));
+        return deliver(
+            alloc,
+            &mut store.ids,
+            translate_of(alloc, by, &table, &ideal),
+        );
     }
     let Some((given, table)) = list_then_table(alloc, store, a, b)? else {
         return Err(CallFault::Script(Fault::WrongType));
     };
-    deliver(alloc, store, generated(alloc, given.as_slice(), &table))
+    deliver(
+        alloc,
+        &mut store.ids,
+        generated(alloc, given.as_slice(), &table),
+    )
 }
 
 /// The operator `+`: of two integers, of two ideals, of an integer and an ideal, or of a list of integers and a
 /// semigroup.
 fn plus(alloc: Global, store: &mut Store, a: &Value, b: &Value) -> Result<Value, CallFault>
-    requires left { AllKnown (named store.old) a.now }
-    requires right { AllKnown (named store.old) b.now }
-    ensures reply { Replies result store.new (operation Operator.Plus (plain (named store.old) a.now) (plain (named store.old) b.now)) }
-    ensures keeps { Keeps store.old store.new }
+    requires left { AllKnown (named store.old.ids) a.now }
+    requires right { AllKnown (named store.old.ids) b.now }
+    ensures reply { Replies result store.new.ids (addition (plain (named store.old.ids) a.now) (plain (named store.old.ids) b.now)) }
+    ensures keeps { Keeps store.old.ids store.new.ids }
+    ensures asked { Asked result (early_of (addition (plain (named store.old.ids) a.now) (plain (named store.old.ids) b.now))) store.old.attributes store.new.attributes }
 {
     if let Some((x, y)) = two_integers(a, b) {
         return calculate(Operator::Plus, x, y);
@@ -111,7 +122,7 @@ fn plus(alloc: Global, store: &mut Store, a: &Value, b: &Value) -> Result<Value,
         Some(((table, one), (_, other))) => {
             deliver(
                 alloc,
-                store,
+                &mut store.ids,
                 pair_of(alloc, Pair::Sum, &table, &one, &other),
             )
         }
@@ -121,10 +132,11 @@ fn plus(alloc: Global, store: &mut Store, a: &Value, b: &Value) -> Result<Value,
 
 /// The operator `-`: of two integers, or of two ideals.
 fn less(alloc: Global, store: &mut Store, a: &Value, b: &Value) -> Result<Value, CallFault>
-    requires left { AllKnown (named store.old) a.now }
-    requires right { AllKnown (named store.old) b.now }
-    ensures reply { Replies result store.new (operation Operator.Less (plain (named store.old) a.now) (plain (named store.old) b.now)) }
-    ensures keeps { Keeps store.old store.new }
+    requires left { AllKnown (named store.old.ids) a.now }
+    requires right { AllKnown (named store.old.ids) b.now }
+    ensures reply { Replies result store.new.ids (subtraction (plain (named store.old.ids) a.now) (plain (named store.old.ids) b.now)) }
+    ensures keeps { Keeps store.old.ids store.new.ids }
+    ensures asked { Asked result (early_of (subtraction (plain (named store.old.ids) a.now) (plain (named store.old.ids) b.now))) store.old.attributes store.new.attributes }
 {
     if let Some((x, y)) = two_integers(a, b) {
         return calculate(Operator::Less, x, y);
@@ -134,16 +146,17 @@ fn less(alloc: Global, store: &mut Store, a: &Value, b: &Value) -> Result<Value,
     };
     deliver(
         alloc,
-        store,
+        &mut store.ids,
         pair_of(alloc, Pair::Difference, &table, &one, &other),
     )
 }
 
 /// The operator `*`: of two integers, or of an integer and an ideal.
 fn times(alloc: Global, store: &mut Store, a: &Value, b: &Value) -> Result<Value, CallFault>
-    requires right { AllKnown (named store.old) b.now }
-    ensures reply { Replies result store.new (operation Operator.Times (plain (named store.old) a.now) (plain (named store.old) b.now)) }
-    ensures keeps { Keeps store.old store.new }
+    requires right { AllKnown (named store.old.ids) b.now }
+    ensures reply { Replies result store.new.ids (multiplication (plain (named store.old.ids) a.now) (plain (named store.old.ids) b.now)) }
+    ensures keeps { Keeps store.old.ids store.new.ids }
+    ensures asked { Asked result (early_of (multiplication (plain (named store.old.ids) a.now) (plain (named store.old.ids) b.now))) store.old.attributes store.new.attributes }
 {
     if let Some((x, y)) = two_integers(a, b) {
         return calculate(Operator::Times, x, y);
@@ -151,7 +164,11 @@ fn times(alloc: Global, store: &mut Store, a: &Value, b: &Value) -> Result<Value
     let Some((factor, (table, ideal))) = integer_then_ideal(alloc, store, a, b)? else {
         return Err(CallFault::Script(Fault::WrongType));
     };
-    deliver(alloc, store, multiple_of(alloc, factor, &table, &ideal))
+    deliver(
+        alloc,
+        &mut store.ids,
+        multiple_of(alloc, factor, &table, &ideal),
+    )
 }
 
 /// The integer with the other sign.
@@ -164,28 +181,33 @@ pub fn negate(a: &Value) -> Result<Value, CallFault>
     integer(0i64.checked_sub(x))
 }
 
-/// What an operator gives of its operands.
+/// What an operator gives of its operands, within a budget of steps that none counts yet. What its row asks for is asked
+/// for in its order, also where the row refuses.
 pub fn combine(
     alloc: Global,
     store: &mut Store,
     op: Operator,
     a: &Value,
     b: &Value,
+    budget: u64,
 ) -> Result<Value, CallFault>
-    requires left { AllKnown (named store.old) a.now }
-    requires right { AllKnown (named store.old) b.now }
-    ensures reply { Replies result store.new (operation op (plain (named store.old) a.now) (plain (named store.old) b.now)) }
-    ensures keeps { Keeps store.old store.new }
+    requires left { AllKnown (named store.old.ids) a.now }
+    requires right { AllKnown (named store.old.ids) b.now }
+    ensures reply { Replies result store.new.ids (operation budget op (plain (named store.old.ids) a.now) (plain (named store.old.ids) b.now)) }
+    ensures keeps { Keeps store.old.ids store.new.ids }
+    ensures asks { Asks result (operation budget op (plain (named store.old.ids) a.now) (plain (named store.old.ids) b.now)) store.old.attributes store.new.attributes }
 {
     match op {
-        Operator::Eq => Ok(Value::Bool(store.equal(a, b))),
-        Operator::Ne => Ok(Value::Bool(!store.equal(a, b))),
+        Operator::Eq => Ok(Value::Bool(store.ids.equal(a, b))),
+        Operator::Ne => Ok(Value::Bool(!store.ids.equal(a, b))),
         Operator::Member => member(alloc, store, a, b),
         Operator::Plus => plus(alloc, store, a, b),
         Operator::Less => less(alloc, store, a, b),
         Operator::Times => times(alloc, store, a, b),
-        Operator::Mod | Operator::Lt | Operator::Le | Operator::Gt | Operator::Ge => on_integers(
-            op, a, b,
-        ),
+        Operator::Mod => on_integers(Operator::Mod, a, b),
+        Operator::Lt => on_integers(Operator::Lt, a, b),
+        Operator::Le => on_integers(Operator::Le, a, b),
+        Operator::Gt => on_integers(Operator::Gt, a, b),
+        Operator::Ge => on_integers(Operator::Ge, a, b),
     }
 }

@@ -8,7 +8,7 @@ use std::test::Fail;
 
 #[test]
 fn a_known_call_answers(rt: HostRuntime) -> Result<(), Fail> {
-    let mut store = Store::new(rt.alloc());
+    let mut store = Store::new(rt.alloc(), 2)?;
     let refused = check_call(b"Gcd", 2);
     assert!(rt; refused.is_none());
     let reply = answer(
@@ -16,6 +16,7 @@ fn a_known_call_answers(rt: HostRuntime) -> Result<(), Fail> {
         &mut store,
         b"Gcd",
         &[Value::Int(4), Value::Int(6)],
+        0,
     );
     assert!(rt; matches!(reply, Ok(Value::Int(2))));
     Ok(())
@@ -28,17 +29,19 @@ fn a_wrong_count_is_refused(rt: HostRuntime) {
 }
 
 #[test]
-fn operators_give(rt: HostRuntime) {
-    let mut store = Store::new(rt.alloc());
+fn operators_give(rt: HostRuntime) -> Result<(), Fail> {
+    let mut store = Store::new(rt.alloc(), 2)?;
     let sum = combine(
         rt.alloc(),
         &mut store,
         Operator::Plus,
         &Value::Int(-7),
         &Value::Int(3),
+        0,
     );
     assert!(rt; matches!(sum, Ok(Value::Int(-4))));
     assert!(rt; matches!(negate(&Value::Int(-7)), Ok(Value::Int(7))));
+    Ok(())
 }
 
 #[test]

@@ -1,5 +1,5 @@
 -- Integers and truth values that are there at once.
-use Rattle.std.proofs.Common.{◌≡◌, ℕ, ℤ, List, Bool, false, Option, Some, None, Result, Ok, Err, OnOk, OnErr, Bor, Vec, Global, refl, ap, sym, ◌∙◌, subst}
+use Rattle.std.proofs.Common.{◌≡◌, ℕ, ℤ, List, [], Bool, false, Option, Some, None, Result, Ok, Err, OnOk, OnErr, Bor, Vec, Global, refl, ap, sym, ◌∙◌, subst}
 use Rattle.std.specs.Prelude.{IfSome}
 use Rattle.std.specs.declared.alloc.AllocError.{AllocError}
 use Rattle.sg_value.specs.Known.{Known, named}
@@ -7,10 +7,9 @@ use Rattle.sg_value.specs.Data.{Data, Kind, EachThing, int, truth, text, list, f
 use Rattle.sg_value.specs.Plain.{Named, AllKnown, IsKnown, contents, plain}
 use Rattle.sg_value.specs.declared.value.Value.{Value}
 use Rattle.sg_value.specs.declared.value.Value.TheVariants as value
-use Rattle.sg_rows.specs.Order.{Plain, IsReply}
+use Rattle.sg_rows.specs.Order.{Plain, Reply}
 use Rattle.sg_rows.specs.Kinds.{as_integer}
 use Rattle.sg_rows.proofs.Replying.{contents-Int, contents-Bool, plain_integer, plain_truth}
-use Rattle.sg_calls.specs.Operations.{operation}
 use Rattle.sg_calls.specs.declared.operator.Operator.{Operator}
 use Rattle.sg_tree.specs.Tree.{Tree, Links, link}
 use Rattle.sg_tree.specs.declared.expr.Op.{Op}
@@ -19,13 +18,14 @@ use Rattle.sg_tree.specs.declared.expr.Rel.{Rel}
 use Rattle.sg_eval.specs.AtOnce.{GivesInteger, GivesTruth, Calculates, Compares}
 use Rattle.sg_meaning.specs.Expressions.{eval, eval_links, ask, relation}
 use Rattle.sg_eval.specs.Linked.{arithmetic, ends_chain, linked, compared_with}
-use Rattle.sg_eval.specs.Outcomes.{Evaluates, plain_of, known_of}
+use Rattle.sg_eval.specs.Outcomes.{RunsOver, Evaluates, plain_of, known_of}
 use Rattle.sg_meaning.specs.Process.{Process, gives, ◌>>=◌}
-use Rattle.sg_meaning.specs.Queries.{combines}
+use Rattle.sg_meaning.specs.Queries.{combines, IsAnswer}
 use Rattle.sg_eval.specs.State.{State, AreKnownIn}
 use Rattle.sg_eval.specs.Truths.{itself, no_semigroup}
 use Rattle.sg_meaning.specs.Vars.{Vars, with_value}
 use Rattle.sg_eval.proofs.Borrowed.{copied}
+use Rattle.sg_eval.proofs.Over.{over_told}
 use Rattle.sg_eval.proofs.Evaluating.{keeps_all, evaluates_as, evaluates_gives, evaluates_then}
 use Rattle.sg_eval.proofs.Steps.{link_then, linked_combines}
 
@@ -53,19 +53,24 @@ named_integer v (Some z) s p is h = copied v (value.Int z) s p (contents-Int z �
 pub number_there : (s : State) (z : ℤ) → GivesInteger s (λ names. gives (int z)) z
 number_there s z = evaluates_gives plain AllKnown (value.Int z) s (λ names. int z) (integer_known (named s.names) z) (λ final later. plain_integer final (value.Int z) z (contents-Int z))
 
+-- an operator of two integers that are there, which asks for nothing
+combined_there : (s : State) (final : Known) (o : Operator) (x y : ℤ) (r : Reply) → IsAnswer s.budget (combines o (int x) (int y)) r []
+    → RunsOver s.budget (ask (combines o (plain (named final) (value.Int x)) (plain (named final) (value.Int y)))) s.variables r s.variables [] s.attributes s.attributes
+combined_there s final o x y r h =
+    subst (λ d. RunsOver s.budget (ask (combines o d (plain (named final) (value.Int y)))) s.variables r s.variables [] s.attributes s.attributes) (sym (plain_integer final (value.Int x) x (contents-Int x)))
+    (subst (λ d. RunsOver s.budget (ask (combines o (int x) d)) s.variables r s.variables [] s.attributes s.attributes) (sym (plain_integer final (value.Int y) y (contents-Int y)))
+    (over_told s.budget (combines o (int x) (int y)) r s.variables s.attributes h))
+
 -- an operator of two integers that are there gives a third
-calculated_there : (s : State) (o : Operator) (x y z : ℤ) → IsReply (operation o (int x) (int y)) (Ok (int z)) → GivesInteger s (λ names. ask (combines o (plain names (value.Int x)) (plain names (value.Int y)))) z
+calculated_there : (s : State) (o : Operator) (x y z : ℤ) → ((n : ℕ) → IsAnswer n (combines o (int x) (int y)) (Ok (int z)) []) → GivesInteger s (λ names. ask (combines o (plain names (value.Int x)) (plain names (value.Int y)))) z
 calculated_there s o x y z h = record {
   keeps = keeps_all s.names;
   variables = refl;
+  budget = refl;
   parameters = refl;
   is_known = integer_known (named s.names) z;
-  gives = λ final later. (
-    Ok (int z),
-    subst (λ d. IsReply (operation o d (plain (named final) (value.Int y))) (Ok (int z))) (sym (plain_integer final (value.Int x) x (contents-Int x)))
-        (subst (λ d. IsReply (operation o (int x) d) (Ok (int z))) (sym (plain_integer final (value.Int y) y (contents-Int y))) h),
-    (ap Ok (plain_integer final (value.Int z) z (contents-Int z)), refl, refl),
-  );
+  gives = λ final later. subst (λ d. RunsOver s.budget (ask (combines o (plain (named final) (value.Int x)) (plain (named final) (value.Int y)))) s.variables (Ok d) s.variables [] s.attributes s.attributes)
+      (sym (plain_integer final (value.Int z) z (contents-Int z))) (combined_there s final o x y (Ok (int z)) (h s.budget));
 }
 
 -- an operator on integers ends no chain
@@ -110,14 +115,11 @@ compared_there s rel t u x y b h left right =
     (record {
       keeps = keeps_all s.names;
       variables = refl;
+      budget = refl;
       parameters = refl;
       is_known = truth_known (named s.names) b;
-      gives = λ final later. (
-        Ok (truth b),
-        subst (λ d. IsReply (operation o d (plain (named final) (value.Int y))) (Ok (truth b))) (sym (plain_integer final (value.Int x) x (contents-Int x)))
-            (subst (λ d. IsReply (operation o (int x) d) (Ok (truth b))) (sym (plain_integer final (value.Int y) y (contents-Int y))) h),
-        (ap Ok (plain_truth final (value.Bool b) b (contents-Bool b)), refl, refl),
-      );
+      gives = λ final later. subst (λ d. RunsOver s.budget (ask (combines o (plain (named final) (value.Int x)) (plain (named final) (value.Int y)))) s.variables (Ok d) s.variables [] s.attributes s.attributes)
+          (sym (plain_truth final (value.Bool b) b (contents-Bool b))) (combined_there s final o x y (Ok (truth b)) (h s.budget));
     }))
 
 -- a fact that holds where a call ended well

@@ -28,6 +28,7 @@ use Rattle.sg_meaning.specs.Process.{Process, gives, refuses, ◌>>=◌}
 use Rattle.sg_eval.specs.State.{State}
 use Rattle.sg_meaning.specs.Vars.{Vars}
 use Rattle.sg_meaning.proofs.Sequels.{assoc, right_unit}
+use Rattle.sg_eval.proofs.Over.{over_refuses}
 use Rattle.sg_eval.proofs.Evaluating.{evaluates_then, evaluates_exit, evaluates_as, all_known_later, keeps_all}
 use Rattle.sg_value.proofs.Joins.{join-none, join-one}
 use Rattle.sg_eval.proofs.Steps.{all_known_more, plain_of_all-more}
@@ -152,4 +153,4 @@ count_wrong env c gs wrong = ap (λ b. answered_if b c (eval_given env (argument
 
 -- refused at once
 pub evaluates_refuses : {Y B : Type 0} (view : Named → Y → B) (known : Named → Y → Type 0) (e : Fault) (s : State) → Evaluates view known (Err (Script e)) s s (λ names. refuses e)
-evaluates_refuses view known e s = record { keeps = keeps_all s.names; variables = refl; parameters = tt; is_known = tt; gives = λ final later. (refl, refl, refl) }
+evaluates_refuses {B} view known e s = record { keeps = keeps_all s.names; variables = refl; budget = refl; parameters = tt; is_known = tt; gives = λ final later. over_refuses {A = B} s.budget e s.variables s.attributes }

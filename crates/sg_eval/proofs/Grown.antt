@@ -19,10 +19,10 @@ use Rattle.sg_eval.specs.declared.step_fault.StepFault.TheVariants.{Script}
 use Rattle.sg_meaning.specs.Expressions.{looked_up, eval, eval_given, ask}
 use Rattle.sg_eval.specs.Given.{plain_where, known_where}
 use Rattle.sg_eval.specs.Growth.{onto, joined_onto, Grows}
-use Rattle.sg_eval.specs.Outcomes.{Evaluates}
 use Rattle.sg_meaning.specs.Process.{Process, gives, sets, ◌>>=◌}
 use Rattle.sg_meaning.specs.Queries.{calls}
-use Rattle.sg_eval.specs.State.{State}
+use Rattle.sg_eval.specs.State.{State, SameStore}
+use Rattle.sg_eval.specs.Outcomes.{Gives, Evaluates}
 use Rattle.sg_eval.specs.Steps.{Executed, step_fault}
 use Rattle.sg_meaning.specs.Vars.{Vars}
 use Rattle.sg_eval.proofs.Borrowed.{entry_only}
@@ -45,13 +45,14 @@ onto_done x others =
     ∙ (sym (assoc (looked_up None x) (λ d. eval_given [] others >>= with_others d) (setting x)) ∙ ap (λ p. p >>= setting x) (onto_step x others))
 
 -- a refusal after which the variables are as they were
-refused_still : (e : CallFault) (s s1 s2 : State) (p : Named → Process Plain) → s2.names ≡ s1.names → s2.variables ≡ s1.variables → Evaluates plain AllKnown (Err e) s s1 p → Evaluates plain AllKnown (Err e) s s2 p
-refused_still e s s1 s2 p names vars h = record {
-  keeps = subst (Keeps s.names) (sym names) h.keeps;
+refused_still : (e : CallFault) (s s1 s2 : State) (p : Named → Process Plain) → SameStore s1 s2 → s2.variables ≡ s1.variables → Evaluates plain AllKnown (Err e) s s1 p → Evaluates plain AllKnown (Err e) s s2 p
+refused_still e s s1 s2 p same vars h = record {
+  keeps = subst (Keeps s.names) (sym same.names) h.keeps;
   variables = vars ∙ h.variables;
+  budget = same.budget ∙ h.budget;
   parameters = tt;
   is_known = tt;
-  gives = λ final later. h.gives final (subst (λ a. Keeps a final) names later);
+  gives = λ final later. subst (Gives (plain (named final)) (Err e) s.budget (p (named final)) s.variables s.attributes) (sym same.attributes) (h.gives final (subst (λ a. Keeps a final) same.names later));
 }
 
 module _ (s : State) (x : List ℕ) (others : Arguments) (o : Option (List ℕ)) (none : s.parameters ≡ []) where
@@ -82,7 +83,7 @@ module _ (s : State) (x : List ℕ) (others : Arguments) (o : Option (List ℕ))
         (executed_value plain_where known_where (eval_given [] others) (λ w. with_others (plain (named s.names) v) w >>= setting x) None (Err (Script WrongType)) s s1 s1 o o (at_top plain_where known_where (Ok None) s s1 (λ ps. eval_given ps others) none h)
         (executed_refuses WrongType s1 o))
 
-    module _ (s1 s2 : State) (lists : Vec Value Global) (given : Evaluates plain_where known_where (Ok (Some lists)) s s1 (λ names. eval_given s.parameters others)) (names : s2.names ≡ s1.names) where
+    module _ (s1 s2 : State) (lists : Vec Value Global) (given : Evaluates plain_where known_where (Ok (Some lists)) s s1 (λ names. eval_given s.parameters others)) (same : SameStore s1 s2) where
       -- what the command is asked for, over the values that were found
       abbrev asked : Process Plain
       asked = ask (calls (Lists Concatenation) (item (plain (named s.names) v) (plain_of_all (named s1.names) lists.items)))
@@ -99,16 +100,16 @@ module _ (s : State) (x : List ℕ) (others : Arguments) (o : Option (List ℕ))
           let still = subst (λ ps. Evaluates plain AllKnown r s1 s1 (λ names. looked_up (lookup (bytes_eq x) ps) x >>= (λ d. ask (calls (Lists Concatenation) (item d (plain_of_all names lists.items)))))) (sym outside) h in
           evaluates_later plain AllKnown r s1 s1 (λ names. ask (calls (Lists Concatenation) (item (plain names v) (plain_of_all names lists.items)))) (λ names. asked)
           (λ final later. ap₂ (λ (d : Plain) (ds : Items Things). ask (calls (Lists Concatenation) (item d ds))) (plain_later s.names final v (keeps_then s.names s1.names final given.keeps later) found.is_known) (plain_of_all_later s1.names final lists.items later given.is_known))
-          (entry_only s s1 x v r given.parameters given.variables given.keeps (λ names d. ask (calls (Lists Concatenation) (item d (plain_of_all names lists.items)))) found still)
+          (entry_only s s1 x v r given.parameters given.variables given.budget given.keeps (λ names d. ask (calls (Lists Concatenation) (item d (plain_of_all names lists.items)))) found still)
 
       -- the lists are refused
       pub growth_refused : (r : Result (Unit {0}) StepFault) (e : CallFault) → IsErrAnd r (λ y. y ≡ step_fault e) → Grows (Err e) s1 s2.variables x (λ names. joined_onto x (plain_of_all names lists.items))
           → Executed r s s2 o o (eval [] (onto x others) >>= setting x)
-      growth_refused r e failed h = after_given r (executed_exit plain AllKnown asked (setting x) r e s1 s2 o failed (refused_still e s1 s1 s2 (λ names. asked) names h.1 (of_found (Err e) h.0)))
+      growth_refused r e failed h = after_given r (executed_exit plain AllKnown asked (setting x) r e s1 s2 o failed (refused_still e s1 s1 s2 (λ names. asked) same h.1 (of_found (Err e) h.0)))
 
       -- the list grew
       pub growth_done : s2.parameters ≡ s1.parameters → Grows (Ok tt) s1 s2.variables x (λ names. joined_onto x (plain_of_all names lists.items)) → Executed (Ok tt) s s2 o o (eval [] (onto x others) >>= setting x)
       growth_done params h =
           after_given (Ok tt)
           (executed_value plain AllKnown asked (setting x) h.0 (Ok tt) s1 s1 s2 o o (of_found (Ok h.0) h.1)
-          (executed_sets x (plain (named s1.names) h.0) (gives tt) (Ok tt) s1 s2 s2 o o names h.2 (executed_gives tt s2 o (params ∙ (given.parameters ∙ none)))))
+          (executed_sets x (plain (named s1.names) h.0) (gives tt) (Ok tt) s1 s2 s2 o o same h.2 (executed_gives tt s2 o (params ∙ (given.parameters ∙ none)))))

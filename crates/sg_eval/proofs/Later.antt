@@ -7,13 +7,15 @@ use Rattle.sg_value.specs.Data.{data_map, EachThing}
 use Rattle.sg_value.specs.Plain.{Named, AllKnown, AllKnownIn, contents, plain, plain_of_all, thing_at, IsKnown}
 use Rattle.sg_value.specs.declared.value.Value.{Value}
 use Rattle.sg_store.specs.Interned.{Keeps}
-use Rattle.sg_rows.specs.Order.{Plain, Reply, IsReply}
+use Rattle.sg_rows.specs.Asks.{Asking}
+use Rattle.sg_rows.specs.Order.{Plain, Reply, IsReply, AreAsked}
 use Rattle.sg_calls.specs.Rows.{row}
 use Rattle.sg_calls.specs.declared.command.Command.{Command}
 use Rattle.sg_rows.specs.Entries.{entry_count}
 use Rattle.sg_meaning.specs.Expressions.{looked_up, known}
-use Rattle.sg_meaning.specs.Process.{Runs}
-use Rattle.sg_eval.specs.Outcomes.{Evaluates}
+use Rattle.sg_meaning.specs.Queries.{calls, IsAnswer}
+use Rattle.sg_eval.specs.Outcomes.{RunsOver, Evaluates}
+use Rattle.sg_eval.proofs.Over.{over_gives}
 use Rattle.sg_eval.specs.State.{State, vars_of, AreKnown}
 use Rattle.sg_eval.specs.declared.variable.Variable.{Variable}
 use Rattle.sg_eval.proofs.Evaluating.{known_later, plain_later, plain_of_all_later, evaluates_gives, keeps_all}
@@ -33,9 +35,10 @@ pub entry_count-plain : (names : Named) (vs : List Value) → entry_count (plain
 entry_count-plain names [] = refl
 entry_count-plain names (v ∷ vs) = ap suc (entry_count-plain names vs)
 
--- the reply of a command, over a later store
-pub row_answered : (a b : Known) (vs : List Value) (c : Command) (t : Reply) → Keeps a b → AllKnownIn (named a) vs → IsReply (row c (plain_of_all (named a) vs)) t → IsReply (row c (plain_of_all (named b) vs)) t
-row_answered a b vs c t kept is_known h = subst (λ ds. IsReply (row c ds) t) (sym (plain_of_all_later a b vs kept is_known)) h
+-- the reply of a command, and what it asks for, over a later store
+pub row_answered : (n : ℕ) (a b : Known) (vs : List Value) (c : Command) (t : Reply) (asked : List Asking) → Keeps a b → AllKnownIn (named a) vs
+    → IsReply (row n c (plain_of_all (named a) vs)) t → AreAsked (row n c (plain_of_all (named a) vs)) asked → IsAnswer n (calls c (plain_of_all (named b) vs)) t asked
+row_answered n a b vs c t asked kept is_known h w = subst (λ ds. IsAnswer n (calls c ds) t asked) (sym (plain_of_all_later a b vs kept is_known)) (h, w)
 
 -- a copy of a value
 pub copy_plain : (names : Named) (v w : Value) → contents w ≡ contents v → plain names w ≡ plain names v
@@ -61,8 +64,9 @@ variable_found s name v w absent found is_known copy =
     (record {
       keeps = keeps_all s.names;
       variables = refl;
+      budget = refl;
       parameters = refl;
       is_known = copy_known (named s.names) v w copy is_known;
-      gives = λ final later. subst (λ o. Runs (known o) s.variables (Ok (plain (named final) w)) s.variables []) (sym found)
-          (ap Ok (copy_plain (named final) v w copy ∙ plain_later s.names final v later is_known), refl, refl);
+      gives = λ final later. subst (λ o. RunsOver s.budget (known o) s.variables (Ok (plain (named final) w)) s.variables [] s.attributes s.attributes) (sym found)
+          (over_gives s.budget (plain (named final) w) (plain (named s.names) v) s.variables s.attributes (copy_plain (named final) v w copy ∙ plain_later s.names final v later is_known));
     })

@@ -1,3 +1,4 @@
+pub mod Over
 pub mod Evaluating
 pub mod Later
 pub mod Measured

@@ -1,5 +1,5 @@
 -- Lists that are asked for, and the limits on them.
-use Rattle.std.proofs.Common.{◌≡◌, ◌<◌, ◌≤◌, ◌^◌, ◌-◌, ℕ, min, List, Ok, Err, refl, ap, sym, ◌∙◌, subst, arith}
+use Rattle.std.proofs.Common.{◌≡◌, ◌<◌, ◌≤◌, ◌^◌, ◌-◌, ℕ, min, List, Ok, Err, refl, ap, sym, ◌∙◌, subst, arith, []}
 use Rattle.sg_value.specs.Known.{Known, named}
 use Rattle.sg_value.specs.Data.{list, items_map, depth_of, depth_of_all, weight_of, weight_of_all, EachThingOfAll}
 use Rattle.sg_value.specs.Plain.{AllKnownIn, IsKnown, Entries, contents_of_all, plain_of_all, thing_at}
@@ -20,7 +20,7 @@ row_of names vs = answers (λ d. d ≡ list (plain_of_all (named names) vs))
 
 -- what is asked of that list
 abbrev pub listing : Known → List Value → Case
-listing names vs = fits (row_of names vs)
+listing names vs = fits [] (row_of names vs)
 
 -- the entries of a list of values, with the depth and the weight that were measured
 module _ (names : Known) (vs : List Value) (ds : Entries) (is : ds ≡ contents_of_all vs) where

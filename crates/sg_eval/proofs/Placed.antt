@@ -13,6 +13,7 @@ use Rattle.sg_meaning.specs.Entries.{entry_at, entry_at_integer, as_natural}
 use Rattle.sg_meaning.specs.Queries.{found_or_out, item_of, indexes}
 use Rattle.sg_meaning.specs.Expressions.{ask}
 use Rattle.sg_eval.specs.Outcomes.{Evaluates}
+use Rattle.sg_eval.proofs.Over.{over_told}
 use Rattle.sg_eval.specs.State.{State}
 use Rattle.sg_eval.proofs.Evaluating.{keeps_all}
 use Rattle.sg_eval.proofs.Later.{copy_plain, copy_known}
@@ -96,9 +97,11 @@ module _ (s : State) (l p : Value) (ds : Items Places) (z : ℤ) (is_l : as_list
       record {
         keeps = keeps_all s.names;
         variables = refl;
+        budget = refl;
         parameters = refl;
         is_known = copy_known (named s.names) v w copy known_v;
-        gives = λ final later. (Ok (plain (named final) w), sym (item_as (thing_at (named final)) (contents l) (contents p) ds z (Some (contents v)) is_l is_p found ∙ ap Ok (sym (copy_plain (named final) v w copy))), (refl, refl, refl));
+        gives = λ final later. over_told s.budget (indexes (plain (named final) l) (plain (named final) p)) (Ok (plain (named final) w)) s.variables s.attributes
+            (sym (item_as (thing_at (named final)) (contents l) (contents p) ds z (Some (contents v)) is_l is_p found ∙ ap Ok (sym (copy_plain (named final) v w copy))), refl);
       }
 
   -- there is no such entry
@@ -106,7 +109,9 @@ module _ (s : State) (l p : Value) (ds : Items Places) (z : ℤ) (is_l : as_list
   index_out out = record {
     keeps = keeps_all s.names;
     variables = refl;
+    budget = refl;
     parameters = tt;
     is_known = tt;
-    gives = λ final later. (Err IndexOut, sym (item_as (thing_at (named final)) (contents l) (contents p) ds z None is_l is_p out), (refl, refl, refl));
+    gives = λ final later. over_told s.budget (indexes (plain (named final) l) (plain (named final) p)) (Err IndexOut) s.variables s.attributes
+        (sym (item_as (thing_at (named final)) (contents l) (contents p) ds z None is_l is_p out), refl);
   }

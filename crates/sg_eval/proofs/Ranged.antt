@@ -18,8 +18,8 @@ use Rattle.sg_rows.specs.declared.fault.CallFault.{CallFault}
 use Rattle.sg_tree.specs.Tree.{Tree, span}
 use Rattle.sg_meaning.specs.Entries.{integers_from}
 use Rattle.sg_meaning.specs.Expressions.{eval, ask, listed}
-use Rattle.sg_eval.specs.Outcomes.{Evaluates, plain_items, known_items}
-use Rattle.sg_meaning.specs.Process.{Process, gives, ◌>>=◌, Runs}
+use Rattle.sg_eval.specs.Outcomes.{RunsOver, Evaluates, plain_items, known_items}
+use Rattle.sg_meaning.specs.Process.{Process, gives, ◌>>=◌}
 use Rattle.sg_meaning.specs.Queries.{spans}
 use Rattle.sg_eval.specs.Ranges.{IsRange, list_of_range, is_range, ranged, entries_in, are_known}
 use Rattle.sg_eval.specs.State.{State}
@@ -45,9 +45,10 @@ range_listed range ds s s1 p h is =
     record {
       keeps = h.keeps;
       variables = h.variables;
+      budget = h.budget;
       parameters = h.parameters;
       is_known = subst (EachThing (IsKnown (named s1.names))) (sym seen) (integers_known (IsKnown (named s1.names)) range.first range.count);
-      gives = λ final later. subst (λ d. Runs (p (named final)) s.variables (Ok d) s.variables []) (sym (ap (data_map (thing_at (named final))) seen ∙ ap list (integers_map (thing_at (named final)) range.first range.count))) (h.gives final later);
+      gives = λ final later. subst (λ d. RunsOver s.budget (p (named final)) s.variables (Ok d) s.variables [] s.attributes s1.attributes) (sym (ap (data_map (thing_at (named final))) seen ∙ ap list (integers_map (thing_at (named final)) range.first range.count))) (h.gives final later);
     }
 
 -- a range as what a loop goes over
@@ -58,7 +59,7 @@ range_counted range s s1 p h =
 
 -- entries that are there, as what a loop goes over
 pub entries_listed : (ds : Entries) (s s1 : State) (p : Named → Process (Items Things)) → Evaluates plain_items known_items (Ok ds) s s1 p → Evaluates entries_in are_known (Ok (sequence.Listed ds)) s s1 p
-entries_listed ds s s1 p h = record { keeps = h.keeps; variables = h.variables; parameters = h.parameters; is_known = h.is_known; gives = h.gives }
+entries_listed ds s s1 p h = record { keeps = h.keeps; variables = h.variables; budget = h.budget; parameters = h.parameters; is_known = h.is_known; gives = h.gives }
 
 -- the entries of a range, operand by operand
 pub span_step : (ps : Vars) (low high : Tree) → eval ps low >>= (λ a. eval ps high >>= ranged a) ≡ listed_of ps (span low high)

@@ -10,7 +10,7 @@ use Rattle.sg_value.specs.Plain.{Named, Things, contents, contents_of_all, plain
 use Rattle.sg_value.specs.declared.limits.TheConstants.{WEIGHT_LIMIT}
 use Rattle.sg_value.specs.declared.value.Value.{Value}
 use Rattle.sg_value.proofs.Joins.{contents_of_all-append}
-use Rattle.sg_rows.specs.Order.{Reply, fits, IsReply, Delivers}
+use Rattle.sg_rows.specs.Order.{Reply, fits, IsReply, Delivers, IsReplyOf}
 use Rattle.sg_rows.specs.Kinds.{as_integer, given}
 use Rattle.sg_rows.specs.Values.{answers}
 use Rattle.sg_rows.specs.declared.fault.Fault.{Fault}
@@ -20,7 +20,8 @@ use Rattle.sg_rows.proofs.Replying.{delivered, answers_pass}
 use Rattle.sg_rows.proofs.KindLemmas.{as_integer-plain}
 use Rattle.sg_meaning.specs.Entries.{integers_from}
 use Rattle.sg_meaning.specs.Expressions.{ask}
-use Rattle.sg_eval.specs.Outcomes.{Evaluates}
+use Rattle.sg_eval.specs.Outcomes.{RunsOver, Evaluates}
+use Rattle.sg_eval.proofs.Over.{over_told}
 use Rattle.sg_meaning.specs.Queries.{spans, span_of, span_count}
 use Rattle.sg_eval.specs.Ranges.{IsRange, list_of_range, is_range}
 use Rattle.sg_eval.specs.State.{State}
@@ -59,16 +60,16 @@ integers_depth z zero = refl
 integers_depth z (suc n) = ap (max 0) (integers_depth (z +ℤ pos 1) n)
 
 module _ (x : ℤ) (k : ℕ) where
-  spanned_as : (r : Reply) → Delivers (list (integers_from x k)) r → IsReply (fits (answers (λ d. d ≡ list (integers_from x k)))) r
+  spanned_as : (r : Reply) → Delivers (list (integers_from x k)) r → IsReplyOf (answers (λ d. d ≡ list (integers_from x k))) r
   spanned_as r h = delivered (answers (λ d. d ≡ list (integers_from x k))) (list (integers_from x k)) r (answers_pass (λ d. d ≡ list (integers_from x k))) refl h
 
-  spanned_large : WEIGHT_LIMIT ≤ k → IsReply (fits (answers (λ d. d ≡ list (integers_from x k)))) (Err TooLarge)
+  spanned_large : WEIGHT_LIMIT ≤ k → IsReplyOf (answers (λ d. d ≡ list (integers_from x k))) (Err TooLarge)
   spanned_large heavy =
       let e = integers_depth x k in
       let w = integers_weight x k in
       spanned_as (Err TooLarge) (inr ((λ f. f tt), inr ((λ deep. absurd (omega (arith, e, deep))), inl (omega (arith, w, heavy), refl))))
 
-  spanned_fine : k < WEIGHT_LIMIT → IsReply (fits (answers (λ d. d ≡ list (integers_from x k)))) (Ok (list (integers_from x k)))
+  spanned_fine : k < WEIGHT_LIMIT → IsReplyOf (answers (λ d. d ≡ list (integers_from x k))) (Ok (list (integers_from x k)))
   spanned_fine light =
       let e = integers_depth x k in
       let w = integers_weight x k in
@@ -78,24 +79,31 @@ integer_seen : (names : Named) (v : Value) (o : Option ℤ) → as_integer (cont
 integer_seen names v o is = as_integer-plain (thing_at names) (contents v) ∙ is
 
 refused_as : (a b : Value) (s : State) (e : Fault) → ((names : Named) → IsReply (span_of (plain names a) (plain names b)) (Err e)) → Evaluates list_of_range is_range (Err (Script e)) s s (λ names. ask (spans (plain names a) (plain names b)))
-refused_as a b s e h = record { keeps = keeps_all s.names; variables = refl; parameters = tt; is_known = tt; gives = λ final later. (Err e, h (named final), (refl, refl, refl)) }
+refused_as a b s e h = record {
+  keeps = keeps_all s.names;
+  variables = refl;
+  budget = refl;
+  parameters = tt;
+  is_known = tt;
+  gives = λ final later. over_told s.budget (spans (plain (named final) a) (plain (named final) b)) (Err e) s.variables s.attributes (h (named final), refl);
+}
 
 -- the first is no integer
 pub span_low : (a b : Value) (s : State) → as_integer (contents a) ≡ None → Evaluates list_of_range is_range (Err (Script WrongType)) s s (λ names. ask (spans (plain names a) (plain names b)))
 span_low a b s is = refused_as a b s WrongType (λ names.
-    subst (λ o. IsReply (given o (λ x. given (as_integer (plain names b)) (λ y. fits (answers (λ d. d ≡ list (integers_from x (span_count (y -ℤ x)))))))) (Err WrongType)) (sym (integer_seen names a None is)) refl)
+    subst (λ o. IsReply (given o (λ x. given (as_integer (plain names b)) (λ y. fits [] (answers (λ d. d ≡ list (integers_from x (span_count (y -ℤ x)))))))) (Err WrongType)) (sym (integer_seen names a None is)) refl)
 
 -- the second is no integer
 pub span_high : (a b : Value) (s : State) (x : ℤ) → as_integer (contents a) ≡ Some x → as_integer (contents b) ≡ None → Evaluates list_of_range is_range (Err (Script WrongType)) s s (λ names. ask (spans (plain names a) (plain names b)))
 span_high a b s x is_a is_b = refused_as a b s WrongType (λ names.
-    subst (λ o. IsReply (given o (λ z. given (as_integer (plain names b)) (λ y. fits (answers (λ d. d ≡ list (integers_from z (span_count (y -ℤ z)))))))) (Err WrongType)) (sym (integer_seen names a (Some x) is_a))
-    (subst (λ o. IsReply (given o (λ y. fits (answers (λ d. d ≡ list (integers_from x (span_count (y -ℤ x))))))) (Err WrongType)) (sym (integer_seen names b None is_b)) refl))
+    subst (λ o. IsReply (given o (λ z. given (as_integer (plain names b)) (λ y. fits [] (answers (λ d. d ≡ list (integers_from z (span_count (y -ℤ z)))))))) (Err WrongType)) (sym (integer_seen names a (Some x) is_a))
+    (subst (λ o. IsReply (given o (λ y. fits [] (answers (λ d. d ≡ list (integers_from x (span_count (y -ℤ x))))))) (Err WrongType)) (sym (integer_seen names b None is_b)) refl))
 
 span_seen : (a b : Value) (x y : ℤ) (names : Named) (r : Reply) → as_integer (contents a) ≡ Some x → as_integer (contents b) ≡ Some y
-    → IsReply (fits (answers (λ d. d ≡ list (integers_from x (span_count (y -ℤ x)))))) r → IsReply (span_of (plain names a) (plain names b)) r
+    → IsReplyOf (answers (λ d. d ≡ list (integers_from x (span_count (y -ℤ x))))) r → IsReply (span_of (plain names a) (plain names b)) r
 span_seen a b x y names r is_a is_b h =
-    subst (λ o. IsReply (given o (λ z. given (as_integer (plain names b)) (λ y. fits (answers (λ d. d ≡ list (integers_from z (span_count (y -ℤ z)))))))) r) (sym (integer_seen names a (Some x) is_a))
-    (subst (λ o. IsReply (given o (λ y. fits (answers (λ d. d ≡ list (integers_from x (span_count (y -ℤ x))))))) r) (sym (integer_seen names b (Some y) is_b)) h)
+    subst (λ o. IsReply (given o (λ z. given (as_integer (plain names b)) (λ y. fits [] (answers (λ d. d ≡ list (integers_from z (span_count (y -ℤ z)))))))) r) (sym (integer_seen names a (Some x) is_a))
+    (subst (λ o. IsReply (given o (λ y. fits [] (answers (λ d. d ≡ list (integers_from x (span_count (y -ℤ x))))))) r) (sym (integer_seen names b (Some y) is_b)) h)
 
 within_at : (x y : ℤ) (d : ℤ) (n i : ℕ) → FitsSigned w64 x → FitsSigned w64 y → (y -ℤ x) ≡ d → n ≡ min (span_count d) (2 ^ 64 - 1) → i < n → FitsSigned w64 (x +ℤ pos i)
 within_at x y (pos k) n i fit_x fit_y is count h = let up : i ≤ k = omega (arith, count, h) in omega (arith, ints, is, up, fit_x, fit_y)
@@ -119,11 +127,11 @@ module _ (a b : Value) (s : State) (x y : ℤ) (is_a : as_integer (contents a) �
       record {
         keeps = keeps_all s.names;
         variables = refl;
+        budget = refl;
         parameters = refl;
         is_known = range;
-        gives = λ final later. (
-          Ok (list (integers_from x k)),
-          span_seen a b x y (named final) (Ok (list (integers_from x k))) is_a is_b (spanned_fine x k (omega (arith, same, light))),
-          (ap (λ m. Ok (list (integers_from x m))) same, refl, refl),
-        );
+        gives = λ final later.
+            let q = spans (plain (named final) a) (plain (named final) b) in
+            subst (λ m. RunsOver s.budget (ask q) s.variables (Ok (list (integers_from x m))) s.variables [] s.attributes s.attributes) (sym same)
+            (over_told s.budget q (Ok (list (integers_from x k))) s.variables s.attributes (span_seen a b x y (named final) (Ok (list (integers_from x k))) is_a is_b (spanned_fine x k (omega (arith, same, light))), refl));
       }

@@ -1,9 +1,10 @@
 -- What a machine holds, as contracts see it.
-use Rattle.std.specs.Prelude.{ℕ, List, map, All, Vec}
+use Rattle.std.specs.Prelude.{◌≡◌, ℕ, List, map, All, Vec}
 use Rattle.sg_value.specs.Known.{Known, named}
 use Rattle.std.specs.Global.{Global}
 use Rattle.sg_value.specs.declared.value.Value.{Value}
 use Rattle.sg_value.specs.Plain.{plain, AllKnown}
+use Rattle.sg_store.specs.Attributes.{Attributes}
 use Rattle.sg_meaning.specs.Vars.{Vars}
 use Rattle.sg_eval.specs.declared.variable.Variable.{Variable}
 
@@ -22,8 +23,17 @@ AreKnown names vs = All (λ v. AllKnown (named names) v.value) vs
 abbrev pub AreKnownIn : Known → List (Vec ℕ Global × Value) → Type 0
 AreKnownIn names es = All (λ e. AllKnown (named names) e.1) es
 
--- what the store knows, the variables, and the parameters of the arrows around, the nearest first
+-- what the store knows and keeps, the variables, the parameters of the arrows around, the nearest first, and the budget
+-- of steps of each call
 pub record State : Type 0 where
   pub names : Known
+  pub attributes : Attributes
   pub variables : Vars
   pub parameters : Vars
+  pub budget : ℕ
+
+-- what the store knows and keeps is as it was, and so is the budget
+pub record SameStore (s s' : State) : Type 0 where
+  pub names : s'.names ≡ s.names
+  pub attributes : s'.attributes ≡ s.attributes
+  pub budget : s'.budget ≡ s.budget

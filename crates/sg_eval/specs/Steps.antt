@@ -7,6 +7,7 @@ use Rattle.sg_rows.specs.Kinds.{as_list}
 use Rattle.sg_calls.specs.Commands.{word_named}
 use Rattle.sg_tree.specs.Tree.{Tree, number, quoted, truth, failing, variable, call, display, span, minus, negation, chain, compare, item as item_tree, Arguments, Code, nothing, quit, assign, choose, each, perform, Arms, no_arms, arm}
 use Rattle.sg_store.specs.Interned.{Keeps}
+use Rattle.sg_store.specs.Attributes.{Attributes}
 use Rattle.sg_rows.specs.declared.fault.CallFault.{CallFault}
 use Rattle.sg_rows.specs.declared.fault.CallFault.TheVariants as call_fault
 use Rattle.sg_eval.specs.declared.step_fault.Flow.{Flow}
@@ -14,33 +15,37 @@ use Rattle.sg_eval.specs.declared.step_fault.Flow.TheVariants.{On, Quit}
 use Rattle.sg_eval.specs.declared.step_fault.StepFault.{StepFault}
 use Rattle.sg_eval.specs.declared.step_fault.StepFault.TheVariants.{Script, Write, Memory}
 use Rattle.sg_meaning.specs.Expressions.{eval, eval_given, decided, listed}
-use Rattle.sg_meaning.specs.Process.{Process, gives, ◌>>=◌, Runs, Breaks}
+use Rattle.sg_meaning.specs.Process.{Process, gives, ◌>>=◌, Breaks}
+use Rattle.sg_eval.specs.Outcomes.{RunsOver}
 use Rattle.sg_eval.specs.State.{State}
 use Rattle.sg_meaning.specs.Statements.{on, ended, whole, exec_all, is_print, printed}
 use Rattle.sg_meaning.specs.Vars.{Vars}
 
--- a step over a statement: it ended, with these variables and this text, or it was left at some point
-abbrev pub Executes : Result Flow StepFault → Code → Vars → Vars → List ℕ → Type 0
-Executes (Ok On) c vars vars' bs = Runs (whole c) vars (Ok on) vars' bs
-Executes (Ok Quit) c vars vars' bs = Runs (whole c) vars (Ok ended) vars' bs
-Executes (Err (Script e)) c vars vars' bs = Runs (whole c) vars (Err e) vars' bs
-Executes (Err Write) c vars vars' bs = Breaks (whole c) vars vars' bs
-Executes (Err Memory) c vars vars' bs = Breaks (whole c) vars vars' bs
+-- a step over a statement, from this state to that: it ended, with this text, and what it asked for was asked, or it was
+-- left at some point, after which nothing is said of what was asked
+abbrev pub Executes : Result Flow StepFault → Code → State → State → List ℕ → Type 0
+Executes (Ok On) c s s' bs = RunsOver s.budget (whole c) s.variables (Ok on) s'.variables bs s.attributes s'.attributes
+Executes (Ok Quit) c s s' bs = RunsOver s.budget (whole c) s.variables (Ok ended) s'.variables bs s.attributes s'.attributes
+Executes (Err (Script e)) c s s' bs = RunsOver s.budget (whole c) s.variables (Err e) s'.variables bs s.attributes s'.attributes
+Executes (Err Write) c s s' bs = Breaks s.budget (whole c) s.variables s'.variables bs
+Executes (Err Memory) c s s' bs = Breaks s.budget (whole c) s.variables s'.variables bs
 
 -- the same for a piece of a statement
-abbrev pub Does : {A : Type 0} → Result A StepFault → Process A → Vars → Vars → List ℕ → Type 0
-Does (Ok a) p vars vars' bs = Runs p vars (Ok a) vars' bs
-Does (Err (Script e)) p vars vars' bs = Runs p vars (Err e) vars' bs
-Does (Err Write) p vars vars' bs = Breaks p vars vars' bs
-Does (Err Memory) p vars vars' bs = Breaks p vars vars' bs
+abbrev pub Does : {A : Type 0} → Result A StepFault → ℕ → Process A → Vars → Vars → List ℕ → Attributes → Attributes → Type 0
+Does (Ok x) n p vars vars' bs a a' = RunsOver n p vars (Ok x) vars' bs a a'
+Does (Err (Script e)) n p vars vars' bs a a' = RunsOver n p vars (Err e) vars' bs a a'
+Does (Err Write) n p vars vars' bs a a' = Breaks n p vars vars' bs
+Does (Err Memory) n p vars vars' bs a a' = Breaks n p vars vars' bs
 
--- a call over a machine and a sink did what the process does; known semigroups and ideals stayed, and no parameter
+-- a call over a machine and a sink did what the process does; known semigroups and ideals and the budget stayed, and no
+-- parameter
 pub record Executed {A : Type 0} (r : Result A StepFault) (old new : State) (taken taken' : Option (List ℕ)) (p : Process A) : Type 0 where
   pub keeps : Keeps old.names new.names
+  pub budget : new.budget ≡ old.budget
   pub parameters : OnOk r (new.parameters ≡ [])
   pub gained : List ℕ
   pub appended : taken' ≡ append_known taken gained
-  pub does : Does r p old.variables new.variables gained
+  pub does : Does r old.budget p old.variables new.variables gained old.attributes new.attributes
 
 -- the same fault, of a step
 abbrev pub step_fault : CallFault → StepFault

@@ -11,18 +11,20 @@ use indexmap::IndexMap;
 use sg_calls::{CallFault, Command, Operator, combine, perform};
 use sg_nat::Bytes;
 use sg_rows::integer_of;
-use sg_store::Store;
+use sg_store::{Counts, Store};
 use sg_value::{Value, print_into, try_clone};
 use std::alloc::{AllocError, Global};
 
-/// The semigroups and ideals that are known, the variables with their values, and the parameters of the arrows around.
+/// The semigroups and ideals that are known, with what is kept of them, the variables with their values, the parameters of
+/// the arrows around, and the budget of steps of each call.
 #[derive(Drop)]
 pub struct Machine {
     store: Store,
     variables: Variables,
     /// The nearest arrow's first; there are at most as many as expressions may nest.
     parameters: Vec<Variable>,
-    ghost known: { AreKnownIn store variables.entries × AreKnown store parameters.items } by { are_known-prop store variables.entries parameters.items },
+    budget: u64,
+    ghost known: { AreKnownIn store.ids variables.entries × AreKnown store.ids parameters.items } by { are_known-prop store.ids variables.entries parameters.items },
 }
 
 impl Machine {
@@ -30,6 +32,7 @@ impl Machine {
     ghost use Rattle.std.specs.Map.{lookup};
     ghost use Rattle.std.specs.Str.{bytes_eq};
     ghost use Rattle.sg_value.specs.Plain.{AllKnown, AllKnownIn, plain, plain_of_all};
+    ghost use Rattle.sg_store.specs.Attributes.{AreCounts};
     ghost use Rattle.sg_calls.specs.Commands.{takes};
     ghost use Rattle.sg_rows.specs.Order.{Plain};
     ghost use Rattle.sg_meaning.specs.Vars.{Vars, with_value};
@@ -38,20 +41,32 @@ impl Machine {
     ghost use Rattle.sg_meaning.specs.Expressions.{looked_up, ask};
     ghost use Rattle.sg_eval.specs.Outcomes.{Evaluates, Finds};
     ghost use Rattle.sg_eval.specs.Growth.{Grows, joined_onto};
+    ghost use Rattle.sg_eval.specs.State.{SameStore};
     ghost use Rattle.sg_eval.specs.Machine.{state_of};
     ghost use Rattle.sg_eval.specs.AtOnce.{GivesInteger};
     ghost use Rattle.sg_value.specs.Data.{int};
 
-    /// A machine over what this store knows, in which no variable has a value.
-    pub fn new(alloc: Global, store: Store) -> Machine
-        ensures names { (state_of result).names ≡ store }
+    /// A machine over what this store knows and keeps, in which no variable has a value, with this budget of steps for
+    /// each call.
+    pub fn new(alloc: Global, store: Store, budget: u64) -> Machine
+        ensures names { (state_of result).names ≡ store.ids }
+        ensures attributes { (state_of result).attributes ≡ store.attributes }
         ensures variables { (state_of result).variables ≡ [] }
+        ensures budget { (state_of result).budget ≡ budget }
     {
         Machine {
             store,
             variables: IndexMap::new(alloc),
             parameters: Vec::new(alloc),
+            budget,
         }
+    }
+
+    /// How often each attribute of semigroups was asked for and made.
+    pub fn counts(&self) -> Counts
+        ensures { AreCounts (state_of self.now).attributes result }
+    {
+        self.store.attributes.counts()
     }
 
     /// The value of a parameter, or else of a variable.
@@ -93,7 +108,7 @@ impl Machine {
         requires known { AllKnownIn (named (state_of self.old).names) args.now }
         ensures { Evaluates plain AllKnown result (state_of self.old) (state_of self.new) (λ names. ask (calls command (plain_of_all names args.now))) }
     {
-        perform(alloc, &mut self.store, command, args)
+        perform(alloc, &mut self.store, command, args, self.budget)
     }
 
     /// What an operator gives.
@@ -108,13 +123,13 @@ impl Machine {
         requires right { AllKnown (named (state_of self.old).names) b.now }
         ensures { Evaluates plain AllKnown result (state_of self.old) (state_of self.new) (λ names. ask (combines op (plain names a.now) (plain names b.now))) }
     {
-        combine(alloc, &mut self.store, op, a, b)
+        combine(alloc, &mut self.store, op, a, b, self.budget)
     }
 
     /// A parameter comes in, nearest of all.
     pub fn bind(&mut self, name: &Bytes, value: Value) -> Result<(), AllocError>
         requires known { AllKnown (named (state_of self.old).names) value }
-        ensures names { (state_of self.new).names ≡ (state_of self.old).names }
+        ensures store { SameStore (state_of self.old) (state_of self.new) }
         ensures variables { (state_of self.new).variables ≡ (state_of self.old).variables }
         ensures ok { OnOk result ((state_of self.new).parameters ≡ (name.now, plain (named (state_of self.old).names) value) ∷ (state_of self.old).parameters) }
     {
@@ -126,7 +141,7 @@ impl Machine {
     /// The nearest parameter goes.
     pub fn unbind(&mut self)
         requires { (p : List ℕ × Plain) × (ps : Vars) × ((state_of self.old).parameters ≡ p ∷ ps) }
-        ensures names { (state_of self.new).names ≡ (state_of self.old).names }
+        ensures store { SameStore (state_of self.old) (state_of self.new) }
         ensures variables { (state_of self.new).variables ≡ (state_of self.old).variables }
         ensures parameters { (p : List ℕ × Plain) (ps : Vars) → (state_of self.old).parameters ≡ p ∷ ps → (state_of self.new).parameters ≡ ps }
     {
@@ -135,7 +150,7 @@ impl Machine {
 
     /// All parameters go.
     pub fn clear(&mut self)
-        ensures names { (state_of self.new).names ≡ (state_of self.old).names }
+        ensures store { SameStore (state_of self.old) (state_of self.new) }
         ensures variables { (state_of self.new).variables ≡ (state_of self.old).variables }
         ensures parameters { (state_of self.new).parameters ≡ [] }
     {
@@ -146,7 +161,7 @@ impl Machine {
     #[inline(always)]
     pub fn set(&mut self, alloc: Global, name: &Bytes, value: Value) -> Result<(), AllocError>
         requires known { AllKnown (named (state_of self.old).names) value }
-        ensures names { (state_of self.new).names ≡ (state_of self.old).names }
+        ensures store { SameStore (state_of self.old) (state_of self.new) }
         ensures ok { OnOk result ((state_of self.new).variables ≡ with_value name.now (plain (named (state_of self.old).names) value) (state_of self.old).variables) }
         ensures err { OnErr result ((state_of self.new).variables ≡ (state_of self.old).variables) }
         ensures parameters { (state_of self.new).parameters ≡ (state_of self.old).parameters }
@@ -157,7 +172,7 @@ impl Machine {
     /// A variable gets an integer.
     #[inline(always)]
     pub fn set_integer(&mut self, alloc: Global, name: &Bytes, z: i64) -> Result<(), AllocError>
-        ensures names { (state_of self.new).names ≡ (state_of self.old).names }
+        ensures store { SameStore (state_of self.old) (state_of self.new) }
         ensures ok { OnOk result ((state_of self.new).variables ≡ with_value name.now (int z) (state_of self.old).variables) }
         ensures err { OnErr result ((state_of self.new).variables ≡ (state_of self.old).variables) }
         ensures parameters { (state_of self.new).parameters ≡ (state_of self.old).parameters }
@@ -169,7 +184,7 @@ impl Machine {
     pub fn grow(&mut self, alloc: Global, name: &[u8], lists: &[Value]) -> Result<(), CallFault>
         requires parameters { (state_of self.old).parameters ≡ [] }
         requires known { AllKnownIn (named (state_of self.old).names) lists.now }
-        ensures names { (state_of self.new).names ≡ (state_of self.old).names }
+        ensures store { SameStore (state_of self.old) (state_of self.new) }
         ensures parameters { (state_of self.new).parameters ≡ (state_of self.old).parameters }
         ensures grows { Grows result (state_of self.old) (state_of self.new).variables name.now (λ names. joined_onto name.now (plain_of_all names lists.now)) }
     {
@@ -183,7 +198,7 @@ impl Machine {
     {
         let mut text = Bytes::new(alloc);
         for value in values {
-            print_into(value, &self.store, &mut text)?;
+            print_into(value, &self.store.ids, &mut text)?;
         }
         Ok(text)
     }

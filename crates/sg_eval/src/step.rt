@@ -31,9 +31,10 @@ impl Machine {
     ghost use Rattle.sg_eval.specs.Steps.{Executes};
 
     /// Does what a statement says. A statement inside a block never ends the run, and a fault of the script undoes
-    /// nothing that was done before. `Write` comes only where the sink's count of faults rose in this call, or
-    /// stands at its last value. After `Write` or `Memory` the statement was left at some point. What an earlier step
-    /// left behind counts for nothing but the values of the variables.
+    /// nothing that was done before. The attributes that the statement asks for are asked of the store, in its order, and
+    /// no others. `Write` comes only where the sink's count of faults rose in this call, or stands at its last value. After
+    /// `Write` or `Memory` the statement was left at some point, and nothing is said of what was asked. What an earlier step
+    /// left behind counts for nothing but the values of the variables, and what the store keeps.
     pub fn step<W: Sink>(
         &mut self,
         alloc: Global,
@@ -41,7 +42,8 @@ impl Machine {
         out: &mut W,
     ) -> Result<Flow, StepFault>
         ensures keeps { Keeps (state_of self.old).names (state_of self.new).names }
-        ensures executes { (gained : List ℕ) × (W.taken out.new ≡ append_known (W.taken out.old) gained) × Executes result (code_of stmt.now) (state_of self.old).variables (state_of self.new).variables gained }
+        ensures budget { (state_of self.new).budget ≡ (state_of self.old).budget }
+        ensures executes { (gained : List ℕ) × (W.taken out.new ≡ append_known (W.taken out.old) gained) × Executes result (code_of stmt.now) (state_of self.old) (state_of self.new) gained }
         ensures cause { HasCauseAt StepFault.Write (W.faults out.old) (W.faults out.new) result }
         ensures sure { W.sure out.new ≡ W.sure out.old }
     {

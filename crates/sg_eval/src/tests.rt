@@ -26,7 +26,7 @@ fn first_of(
     texts: (&[u8], &[u8]),
     out: &mut MemSink,
 ) -> Result<Result<Flow, StepFault>, Fail> {
-    let mut machine = Machine::new(alloc, Store::new(alloc));
+    let mut machine = Machine::new(alloc, Store::new(alloc, 2)?, 1);
     let ended = step(alloc, &mut machine, texts.0, out)?;
     step(alloc, &mut machine, texts.1, out)?.ok();
     Ok(ended)
@@ -102,5 +102,36 @@ fn a_list_that_would_grow_too_heavy_stays(rt: HostRuntime) -> Result<(), Fail> {
     );
     let ended = Err(StepFault::Script(Fault::TooLarge));
     assert!(rt; is_done(rt.alloc(), texts, &[], ended, b"41943031")?);
+    Ok(())
+}
+
+/// How often tables, and how often pseudo-Frobenius numbers, were asked for by a statement that ends so.
+fn asked_by(
+    alloc: Global,
+    text: &[u8],
+    ended: Result<Flow, StepFault>,
+) -> Result<Option<(u64, u64)>, Fail> {
+    let mut machine = Machine::new(alloc, Store::new(alloc, 2)?, 1);
+    let mut out = MemSink::new(alloc, &[])?;
+    if step(alloc, &mut machine, text, &mut out)? != ended {
+        return Ok(None);
+    }
+    let counts = machine.counts();
+    Ok(Some((counts.tables_asked, counts.pseudo_asked)))
+}
+
+#[test]
+fn what_a_statement_asks_for_is_counted(rt: HostRuntime) -> Result<(), Fail> {
+    let text =
+        b"for s in [NumericalSemigroup(3, 5)] do Genus(s); Genus(s); Type(s); od;".as_slice();
+    assert_eq!(rt; asked_by(rt.alloc(), text, Ok(Flow::On))?, Some((2, 1)));
+    Ok(())
+}
+
+#[test]
+fn what_a_refused_statement_asks_for_is_counted(rt: HostRuntime) -> Result<(), Fail> {
+    let text = b"AperyList(NumericalSemigroup(3, 5), 1);".as_slice();
+    let ended = Err(StepFault::Script(Fault::BadArgument));
+    assert_eq!(rt; asked_by(rt.alloc(), text, ended)?, Some((1, 0)));
     Ok(())
 }

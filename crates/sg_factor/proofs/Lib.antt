@@ -2,11 +2,14 @@ pub mod AscendingLemmas
 pub mod BoundLemmas
 pub mod BoundsLemmas
 pub mod CoinLemmas
+pub mod ComparableLemmas
 pub mod ElasticityLemmas
 pub mod GreedyLemmas
 pub mod IntegerLemmas
 pub mod LengthLemmas
 pub mod NoteLemmas
 pub mod PlaceLemmas
+pub mod ReachLemmas
+pub mod ReachSteps
 pub mod RefusalLemmas
 pub mod StepLemmas

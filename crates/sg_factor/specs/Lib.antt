@@ -3,4 +3,5 @@ pub mod Coins
 pub mod Faults
 pub mod Greedy
 pub mod LengthTables
+pub mod Nearness
 pub mod Steps

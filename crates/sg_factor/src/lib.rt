@@ -4,11 +4,13 @@
 //! factorizations of all elements. The contracts that the layer above uses: `factorizations` lists all factorizations
 //! of an integer in descending lexicographic order, `greatest_factorization` gives the first of them, `lengths` and
 //! `LengthTable` their lengths, `least_lengths` the least length of each number up to a bound, `delta_of` the
-//! differences of neighbouring lengths, and `elasticity` the greatest quotient of two lengths of one element. Terms are
-//! those of Geroldinger and Halter-Koch, Non-Unique Factorizations (2006).
+//! differences of neighbouring lengths, `elasticity` the greatest quotient of two lengths of one element, and
+//! `catenary_of_element` the longest step that chains of factorizations need. Terms are those of Geroldinger and
+//! Halter-Koch, Non-Unique Factorizations (2006).
 #![tactic(auto)]
 
 mod bounds;
+mod catenary;
 mod coins;
 mod deltas;
 mod elements;
@@ -23,9 +25,9 @@ mod quotient;
 mod tests;
 
 pub use deltas::delta_of;
-pub use elements::factorizations;
+pub use elements::{catenary_of_element, factorizations};
 pub use fault::FactorFault;
 pub use greatest::greatest_factorization;
 pub use length_table::{LengthTable, least_lengths, lengths};
-pub use limits::{FACTORIZATION_LIMIT, LENGTH_LIMIT};
+pub use limits::{CATENARY_LIMIT, FACTORIZATION_LIMIT, LENGTH_LIMIT};
 pub use quotient::{elasticity, elasticity_of};

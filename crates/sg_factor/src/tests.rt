@@ -1,8 +1,8 @@
 //! Each call once, with ample memory.
 
 use crate::{
-    LengthTable, delta_of, elasticity, factorizations, greatest_factorization, least_lengths,
-    lengths,
+    LengthTable, catenary_of_element, delta_of, elasticity, factorizations, greatest_factorization,
+    least_lengths, lengths,
 };
 use sg_apery::Table;
 use sg_nat::{Nats, Ratio};
@@ -43,5 +43,14 @@ fn factorizations_of_sixty(rt: HostRuntime) -> Result<(), Fail> {
     let all = factorizations(alloc, &t, 60)?;
     assert_eq!(rt; all.len(), 5);
     assert_eq!(rt; all.as_slice()[1].as_slice(), [7, 2, 0].as_slice());
+    Ok(())
+}
+
+#[test]
+fn the_chains_of_sixty(rt: HostRuntime) -> Result<(), Fail> {
+    let alloc = rt.alloc();
+    let t = Table::from_generators(alloc, &[6, 9, 20])?;
+    assert_eq!(rt; catenary_of_element(alloc, &t, 60)?, 7);
+    assert_eq!(rt; catenary_of_element(alloc, &t, 43)?, 0);
     Ok(())
 }

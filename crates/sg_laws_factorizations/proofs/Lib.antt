@@ -1,2 +1,3 @@
 pub mod ElementsSettled
+pub mod OneAnswer
 pub mod SemigroupsSettled

@@ -1,4 +1,4 @@
--- Every element with two classes is an Apery element of the first generator, and a later generator.
+-- Every element with two classes is the sum of an Apery element of the first generator and a later generator.
 use Rattle.std.proofs.Common.{◌≡◌, ℕ, ◌+◌, ◌-◌, ◌<◌, ◌≤◌, List, length, get_or, replicate, refl, sym, ap, subst, ◌∙◌, inl, inr, arith}
 use Rattle.std.specs.Prelude.{◌⊎◌, All}
 use Rattle.std.proofs.lemmas.Bool.{cases_lt, cases_eq}

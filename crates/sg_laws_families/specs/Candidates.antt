@@ -2,7 +2,7 @@
 use Rattle.std.specs.Prelude.{◌≡◌, ℕ, ◌+◌, ◌%◌, ◌<◌, List, length, slice_index}
 use Rattle.sg_defs.specs.Apery.{IsAperyEntry}
 
--- n is an entry of the Apery list of the first generator, and a later generator
+-- n is the sum of an entry of the Apery list of the first generator and a later generator
 pub record IsBettiCandidate (G : List ℕ) (n : ℕ) : Type 0 where
   pub place : ℕ
   pub after_first : 0 < place

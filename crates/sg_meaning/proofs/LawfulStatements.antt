@@ -87,5 +87,5 @@ whole_lawful (each x t body) = on_lawful (exec (each x t body)) (exec_lawful (ea
 whole_lawful (perform t) = on_lawful (exec (perform t)) (exec_lawful (perform t))
 
 -- a statement over lawful variables ends
-pub statement_some : (c : Code) (vars : Vars) → AreLawfulVars vars → SomeEnd (λ g. ⊤) (whole c) vars
-statement_some c vars l = end_some (λ g. ⊤) (whole c) vars (whole_lawful c) l
+pub statement_some : (n : ℕ) (c : Code) (vars : Vars) → AreLawfulVars vars → SomeEnd n (λ g. ⊤) (whole c) vars
+statement_some n c vars l = end_some n (λ g. ⊤) (whole c) vars (whole_lawful c) l

@@ -5,14 +5,16 @@ use Rattle.std.specs.Prelude.{◌+ℤ◌, ◌-ℤ◌, IfSome, ⊤}
 use Rattle.std.specs.Map.{lookup}
 use Rattle.std.specs.Str.{bytes_eq}
 use Rattle.sg_value.specs.Data.{list, Items, none, item}
-use Rattle.sg_rows.specs.Order.{Plain, Reply, fits}
+use Rattle.sg_rows.specs.Asks.{Asking}
+use Rattle.sg_rows.specs.Order.{Plain, Reply, fits, IsReply, IsReplyOf}
 use Rattle.sg_rows.specs.Kinds.{given, as_integer, as_list}
 use Rattle.sg_rows.specs.Values.{answers}
 use Rattle.sg_rows.specs.Lawful.{IsLawful, AreLawful, IsLawfulReply, SomeReply, IsLawfulThing}
 use Rattle.sg_rows.proofs.SomeValue.{reply_some, given_some, answers_some, is_some_value}
 use Rattle.sg_rows.proofs.KindLemmas.{any_some, as_list-each}
+use Rattle.sg_calls.specs.Operations.{negation}
 use Rattle.sg_calls.specs.Rows.{row}
-use Rattle.sg_calls.proofs.SomeReply.{row_some, operators_some, sign_some}
+use Rattle.sg_calls.proofs.SomeReply.{asked_for, row_some, operators_some, sign_some}
 use Rattle.sg_meaning.specs.Lawful.{AreLawfulVars, IsLawfulQuery, SomeEnd}
 use Rattle.sg_meaning.specs.Process.{Process, gives, refuses, reads, asks, sets, writes, ◌>>=◌}
 use Rattle.sg_meaning.specs.Entries.{integers_from, entry_at}
@@ -41,18 +43,25 @@ item_lawful (Some ds) None h = tt
 item_lawful (Some ds) (Some (pos n)) h = found_lawful (entry_at ds n) (entry_lawful ds n h)
 item_lawful (Some ds) (Some (negsuc n)) h = tt
 
--- a query about lawful values has an answer
-pub answer_some : (q : Query) → IsLawfulQuery q → SomeReply (IsAnswer q)
-answer_some (calls c args) h = reply_some (row c args) (row_some c args h)
-answer_some (combines op a b) h = operators_some op a b h.0 h.1
-answer_some (negates a) h = sign_some a
-answer_some (lists ds) h = reply_some (fits (answers (λ d. d ≡ list ds))) (answers_some _ (is_some_value (list ds) h))
-answer_some (spans a b) h =
-    reply_some (span_of a b)
-    (given_some (λ x. ⊤) (as_integer a) (λ x. given (as_integer b) (λ y. fits (answers (λ d. d ≡ list (integers_from x (span_count (y -ℤ x))))))) (any_some (as_integer a))
-    (λ x l. given_some (λ y. ⊤) (as_integer b) (λ y. fits (answers (λ d. d ≡ list (integers_from x (span_count (y -ℤ x)))))) (any_some (as_integer b))
+-- from one integer to another there is a list, or a refusal
+span_some : (a b : Plain) → SomeReply (IsReply (span_of a b))
+span_some a b = reply_some (span_of a b)
+    (given_some (λ x. ⊤) (as_integer a) (λ x. given (as_integer b) (λ y. fits [] (answers (λ d. d ≡ list (integers_from x (span_count (y -ℤ x))))))) (any_some (as_integer a))
+    (λ x l. given_some (λ y. ⊤) (as_integer b) (λ y. fits [] (answers (λ d. d ≡ list (integers_from x (span_count (y -ℤ x)))))) (any_some (as_integer b))
     (λ y m. answers_some _ (is_some_value (list (integers_from x (span_count (y -ℤ x)))) (integers_lawful x (span_count (y -ℤ x)))))))
-answer_some (indexes a i) h = (item_of (as_list a) (as_integer i), refl, item_lawful (as_list a) (as_integer i) ((as_list-each IsLawfulThing) a h.0))
+
+-- with a reply, on the way to which nothing is asked for
+not_asked : (P : Reply → Type 0) → SomeReply P → SomeReply (λ r. (asked : List Asking) × (P r × (asked ≡ [])))
+not_asked P h = (h.0, ([], (h.1, refl)), h.2)
+
+-- a query about lawful values has an answer
+pub answer_some : (n : ℕ) (q : Query) → IsLawfulQuery q → SomeReply (λ r. (asked : List Asking) × IsAnswer n q r asked)
+answer_some n (calls c args) h = asked_for (row n c args) (reply_some (row n c args) (row_some n c args h))
+answer_some n (combines op a b) h = operators_some n op a b h.0 h.1
+answer_some n (negates a) h = not_asked (IsReply (negation a)) (sign_some a)
+answer_some n (lists ds) h = not_asked (IsReplyOf (answers (λ d. d ≡ list ds))) (reply_some (fits [] (answers (λ d. d ≡ list ds))) (answers_some _ (is_some_value (list ds) h)))
+answer_some n (spans a b) h = not_asked (IsReply (span_of a b)) (span_some a b)
+answer_some n (indexes a i) h = (item_of (as_list a) (as_integer i), ([], (refl, refl)), item_lawful (as_list a) (as_integer i) ((as_list-each IsLawfulThing) a h.0))
 
 -- ---- variables
 
@@ -94,13 +103,13 @@ then_lawful L M (sets x d p) f h next = (h.0, then_lawful L M p f h.1 next)
 then_lawful L M (writes bs p) f h next = then_lawful L M p f h next
 
 -- what stays lawful ends
-pub end_some : {A : Type 0} (L : A → Type 0) (p : Process A) (vars : Vars) → StaysLawful L p → AreLawfulVars vars → SomeEnd L p vars
-end_some L (gives a) vars h l = (Ok a, vars, [], (refl, refl, refl), h, l)
-end_some L (refuses e) vars h l = (Err e, vars, [], (refl, refl, refl), tt, l)
-end_some L (reads x k) vars h l = end_some L (k (value_at vars x)) vars (h (value_at vars x) (value_at_lawful vars x l)) l
-end_some L (asks q k) vars h l =
-    let r = answer_some q h.0 in
-    let e = end_some L (k r.0) vars (h.1 r.0 r.2) l in
-    (e.0, e.1, e.2, (r.0, r.1, e.3), e.4, e.5)
-end_some L (sets x d p) vars h l = end_some L p (with_value x d vars) h.1 (with_value_lawful x d vars h.0 l)
-end_some L (writes out p) vars h l = let e = end_some L p vars h l in (e.0, e.1, out ++ e.2, (e.2, refl, e.3), e.4, e.5)
+pub end_some : {A : Type 0} (n : ℕ) (L : A → Type 0) (p : Process A) (vars : Vars) → StaysLawful L p → AreLawfulVars vars → SomeEnd n L p vars
+end_some n L (gives a) vars h l = (Ok a, vars, [], [], (refl, refl, refl, refl), h, l)
+end_some n L (refuses e) vars h l = (Err e, vars, [], [], (refl, refl, refl, refl), tt, l)
+end_some n L (reads x k) vars h l = end_some n L (k (value_at vars x)) vars (h (value_at vars x) (value_at_lawful vars x l)) l
+end_some n L (asks q k) vars h l =
+    let r = answer_some n q h.0 in
+    let e = end_some n L (k r.0) vars (h.1 r.0 r.2) l in
+    (e.0, e.1, e.2, r.1.0 ++ e.3, (r.0, r.1.0, e.3, r.1.1, refl, e.4), e.5, e.6)
+end_some n L (sets x d p) vars h l = end_some n L p (with_value x d vars) h.1 (with_value_lawful x d vars h.0 l)
+end_some n L (writes out p) vars h l = let e = end_some n L p vars h l in (e.0, e.1, out ++ e.2, e.3, (e.2, refl, e.4), e.5, e.6)

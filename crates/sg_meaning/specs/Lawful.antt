@@ -1,5 +1,6 @@
 -- Variables and queries whose semigroups and ideals are such as a script can make.
 use Rattle.std.specs.Prelude.{ℕ, List, [], ◌∷◌, Result, IfOk, ⊤}
+use Rattle.sg_rows.specs.Asks.{Asking}
 use Rattle.sg_rows.specs.Lawful.{IsLawful, AreLawful}
 use Rattle.sg_rows.specs.declared.fault.Fault.{Fault}
 use Rattle.sg_meaning.specs.Process.{Process, Runs}
@@ -21,5 +22,5 @@ IsLawfulQuery (spans a b) = IsLawful a × IsLawful b
 IsLawfulQuery (indexes a i) = IsLawful a × IsLawful i
 
 -- it ends from these variables, where it gives something with L, and leaves lawful variables
-abbrev pub SomeEnd : {A : Type 0} → (A → Type 0) → Process A → Vars → Type 0
-SomeEnd {A} L p vars = (end : Result A Fault) × (vars' : Vars) × (bs : List ℕ) × Runs p vars end vars' bs × IfOk end L × AreLawfulVars vars'
+abbrev pub SomeEnd : {A : Type 0} → ℕ → (A → Type 0) → Process A → Vars → Type 0
+SomeEnd {A} n L p vars = (end : Result A Fault) × (vars' : Vars) × (bs : List ℕ) × (asked : List Asking) × Runs n p vars end vars' bs asked × IfOk end L × AreLawfulVars vars'

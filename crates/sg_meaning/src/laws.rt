@@ -3,7 +3,7 @@
 ghost use Rattle.sg_meaning.specs.Laws.{OneOutcome, SomeOutcome};
 
 /// A command, an operator or another form is answered, and a statement over variables ends, in at most one way: with
-/// one value or fault, one list of variables and one text.
+/// one value or fault, one list of variables, one text, and one list of what it asked for.
 pub fn one_outcome()
     ensures { OneOutcome }
 {}

@@ -17,6 +17,6 @@ mod question;
 mod tests;
 
 pub use kept::Kept;
-pub use makes::Makes;
+pub use makes::{Called, Makes};
 pub use memo::Memo;
 pub use question::Question;

@@ -5,7 +5,7 @@ ghost use Rattle.std.specs.Prelude.{ℕ, List, IfOk};
 use sg_nat::Nats;
 use std::alloc::{AllocError, Global};
 
-/// What makes values of lists. Every function and closure that can be called with an allocator and a list does.
+/// What makes values of lists.
 pub trait Makes<A>: Drop {
     /// The lists that it may be called at.
     ghost takes: { Self → List ℕ → Type 0 };
@@ -19,16 +19,23 @@ pub trait Makes<A>: Drop {
         ensures { IfOk result (λ a. gives self.now key.now a) };
 }
 
-impl<A, F: Fn(Global, &Nats) -> Result<A, AllocError>> Makes<A> for F {
+/// A function or closure as a maker. It stands in a wrapper, so that a type may be a maker by an impl of its own.
+#[derive(Drop)]
+pub struct Called<F> {
+    /// What is called.
+    pub function: F,
+}
+
+impl<A, F: Fn(Global, &Nats) -> Result<A, AllocError>> Makes<A> for Called<F> {
     ghost use Rattle.std.specs.Prelude.{◌≡◌, ℕ, List, Ok};
     ghost use Rattle.std.specs.Borrow.{Bor};
     ghost use Rattle.std.specs.declared.alloc.Global.{Global};
 
-    ghost takes = { λ f key. (alloc : Global) (k : Bor (List ℕ)) → k.now ≡ key → F.pre f alloc k };
+    ghost takes = { λ f key. (alloc : Global) (k : Bor (List ℕ)) → k.now ≡ key → F.pre f.function alloc k };
 
-    ghost gives = { λ f key a. (alloc : Global) × (k : Bor (List ℕ)) × (k.now ≡ key) × F.post f alloc k (Ok a) };
+    ghost gives = { λ f key a. (alloc : Global) × (k : Bor (List ℕ)) × (k.now ≡ key) × F.post f.function alloc k (Ok a) };
 
     fn make(&self, alloc: Global, key: &Nats) -> Result<A, AllocError> {
-        self(alloc, key)
+        (self.function)(alloc, key)
     }
 }

@@ -3,7 +3,7 @@
 ghost use Rattle.std.specs.Prelude.{◌≡◌, ◌<◌, ◌^◌, sum, IfOk};
 ghost use Rattle.sg_memo.specs.Answering.{Answers};
 
-use crate::{Kept, Makes, Memo, Question};
+use crate::{Called, Kept, Makes, Memo, Question};
 use sg_nat::Nats;
 use std::alloc::{AllocError, Global};
 use std::cell::Cell;
@@ -65,7 +65,7 @@ fn what_is_made_is_counted(rt: HostRuntime) -> Result<(), Fail> {
         let made = made_for(
             &rt,
             rt.alloc(),
-            counting,
+            Called { function: counting },
             capacity,
             &[(3, 5), (4, 5), (4, 5), (3, 5)],
         )?;

@@ -1,5 +1,6 @@
 -- What a run has written, and how it ended.
 use Rattle.std.specs.Prelude.{◌≡◌, ℕ, List, ◌++◌, map, Option}
+use Rattle.sg_rows.specs.Asks.{Asking}
 use Rattle.sg_rows.specs.declared.fault.Fault.{Fault}
 
 -- where a byte goes
@@ -30,14 +31,15 @@ pub data Ending : Type 0 where
   refused : Fault → ℕ → Ending
   waiting : Ending
 
--- what a play came to: what was written, which statements were refused and passed, how it ended, and how many bytes stand
--- before the statement that ended it, where one did
+-- what a play came to: what was written, which attributes of semigroups were asked for, which statements were refused and
+-- passed, how it ended, and how many bytes stand before the statement that ended it, where one did
 pub record Played : Type 0 where
   pub written : Record
+  pub asked : List Asking
   pub refusals : List Refusal
   pub ending : Ending
   pub place : Option ℕ
 
--- the same, after this was written and these statements were passed
-abbrev pub after : Record → List Refusal → Played → Played
-after r refusals p = record { written = r ++ p.written; refusals = refusals ++ p.refusals; ending = p.ending; place = p.place }
+-- the same, after this was written and asked for, and these statements were passed
+abbrev pub after : Record → List Asking → List Refusal → Played → Played
+after r asked refusals p = record { written = r ++ p.written; asked = asked ++ p.asked; refusals = refusals ++ p.refusals; ending = p.ending; place = p.place }

@@ -2,6 +2,7 @@ pub mod KindLemmas
 pub mod EntryLemmas
 pub mod IntegerLemmas
 pub mod Replying
+pub mod AskLemmas
 pub mod Signed
 pub mod Spans
 pub mod OneValue

@@ -1,13 +1,13 @@
 -- Replies that are lists of numbers or of semigroups.
-use Rattle.std.proofs.Common.{◌≡◌, ◌<◌, ◌≤◌, ℕ, ℤ, pos, List, [], ◌∷◌, length, map, Ok, Err, inl, inr, refl, ap, sym, ◌∙◌, Bool, true, false, IsTrue, arith}
+use Rattle.std.proofs.Common.{◌≡◌, ◌<◌, ◌≤◌, ℕ, ℤ, pos, List, [], ◌∷◌, length, map, Ok, Err, inl, inr, refl, ap, ap₂, sym, ◌∙◌, Bool, true, false, IsTrue, arith}
 use Rattle.std.proofs.lemmas.Bool.{cases_lt}
-use Rattle.sg_value.specs.Data.{Data, int, list, semigroup, item, items_of, data_map, items_map, weight_of, weight_of_all, depth_of, depth_of_all, EachThingOfAll, Kind}
+use Rattle.sg_value.specs.Data.{Data, int, list, semigroup, item, items_of, data_map, items_map, weight_of, weight_of_all, depth_of, depth_of_all, EachThingOfAll, Items, Kind}
 use Rattle.sg_value.specs.Places.{Entries}
 use Rattle.sg_value.specs.declared.limits.TheConstants.{WEIGHT_LIMIT}
 use Rattle.sg_value.specs.Plain.{contents, Things, Places}
 use Rattle.sg_value.specs.declared.value.Value.TheVariants as value
 use Rattle.sg_rows.specs.Order.{Delivers}
-use Rattle.sg_rows.specs.Values.{integer_list, natural_list, semigroup_list}
+use Rattle.sg_rows.specs.Values.{integer_list, natural_list, semigroup_list, vector_list, weight_of_vectors}
 use Rattle.sg_rows.specs.declared.fault.Fault.TheVariants.{TooLarge}
 
 module _ {A : Type 0} {H : Kind → Type 0} (f : A → Data H) (light : (a : A) → weight_of (f a) ≡ 1) (flat : (a : A) → depth_of (f a) ≡ 0) where
@@ -46,6 +46,26 @@ delivers_semigroups L few = delivers_flat semigroup (λ h. refl) (λ h. refl) L 
 pub delivers_heavy_semigroups : (L : List (List ℕ)) → WEIGHT_LIMIT ≤ length L → Delivers {H = Things} (semigroup_list L) (Err TooLarge)
 delivers_heavy_semigroups L many = delivers_heavy semigroup (λ h. refl) (λ h. refl) L many
 
+-- lists of vectors
+abbrev vector_items : List (List ℕ) → Items Things
+vector_items vs = items_of (map natural_list vs)
+
+weight-vectors : (vs : List (List ℕ)) → weight_of_all (vector_items vs) ≡ weight_of_vectors vs
+weight-vectors [] = refl
+weight-vectors (ns ∷ vs) = omega (arith, weight-flat {H = Things} (λ n. int (pos n)) (λ n. refl) (λ n. refl) ns, weight-vectors vs)
+
+depth-vectors : (vs : List (List ℕ)) → depth_of_all (vector_items vs) ≤ 1
+depth-vectors [] = omega arith
+depth-vectors (ns ∷ vs) = omega (arith, depth-flat {H = Things} (λ n. int (pos n)) (λ n. refl) (λ n. refl) ns, depth-vectors vs)
+
+pub delivers_vectors : (vs : List (List ℕ)) → weight_of_vectors vs < WEIGHT_LIMIT → Delivers {H = Things} (vector_list vs) (Ok (vector_list vs))
+delivers_vectors vs few =
+    inr ((λ n. n tt), inr ((λ deep. omega (arith, depth-vectors vs, deep)), inr ((λ heavy. omega (arith, weight-vectors vs, few, heavy)), refl)))
+
+pub delivers_heavy_vectors : (vs : List (List ℕ)) → WEIGHT_LIMIT ≤ weight_of_vectors vs → Delivers {H = Things} (vector_list vs) (Err TooLarge)
+delivers_heavy_vectors vs many =
+    inr ((λ n. n tt), inr ((λ deep. omega (arith, depth-vectors vs, deep)), inl (omega (arith, weight-vectors vs, many), refl)))
+
 -- what is plain has the same integers
 integers_kept : {H K : Kind → Type 0} (f : (k : Kind) → H k → K k) (zs : List ℤ) → items_map f (items_of (map int zs)) ≡ items_of (map int zs)
 integers_kept f [] = refl
@@ -61,6 +81,13 @@ naturals_kept f (n ∷ ns) = ap (item (int (pos n))) (naturals_kept f ns)
 pub plain_naturals : {H K : Kind → Type 0} (f : (k : Kind) → H k → K k) (ns : List ℕ) → data_map f (natural_list ns) ≡ natural_list ns
 plain_naturals f ns = ap list (naturals_kept f ns)
 
+vectors_kept : {H K : Kind → Type 0} (f : (k : Kind) → H k → K k) (vs : List (List ℕ)) → items_map f (items_of (map natural_list vs)) ≡ items_of (map natural_list vs)
+vectors_kept f [] = refl
+vectors_kept f (ns ∷ vs) = ap₂ item (plain_naturals f ns) (vectors_kept f vs)
+
+pub plain_vectors : {H K : Kind → Type 0} (f : (k : Kind) → H k → K k) (vs : List (List ℕ)) → data_map f (vector_list vs) ≡ vector_list vs
+plain_vectors f vs = ap list (vectors_kept f vs)
+
 pub integers_known : (P : (k : Kind) → Places k → Type 0) (zs : List ℤ) → EachThingOfAll P (items_of (map int zs))
 integers_known P [] = tt
 integers_known P (z ∷ zs) = (tt, integers_known P zs)
@@ -68,6 +95,10 @@ integers_known P (z ∷ zs) = (tt, integers_known P zs)
 pub naturals_known : (P : (k : Kind) → Places k → Type 0) (ns : List ℕ) → EachThingOfAll P (items_of (map (λ n. int (pos n)) ns))
 naturals_known P [] = tt
 naturals_known P (n ∷ ns) = (tt, naturals_known P ns)
+
+pub vectors_known : (P : (k : Kind) → Places k → Type 0) (vs : List (List ℕ)) → EachThingOfAll P (items_of (map natural_list vs))
+vectors_known P [] = tt
+vectors_known P (ns ∷ vs) = (naturals_known P ns, vectors_known P vs)
 
 pub contents-List : (ds : Entries) → contents (value.List ds) ≡ list ds
 contents-List ds = refl

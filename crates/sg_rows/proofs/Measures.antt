@@ -5,8 +5,8 @@ use Rattle.sg_value.specs.Data.{Data, list, Items, none, item, data_map, items_m
 use Rattle.sg_value.specs.Plain.{IsKnown, plain, thing_at, Things, Entries}
 use Rattle.sg_value.specs.declared.limits.TheConstants.{NESTING_LIMIT, WEIGHT_LIMIT}
 use Rattle.sg_value.specs.declared.value.Value.TheVariants as value
-use Rattle.sg_rows.specs.Order.{Row, fits, IsReply, Passes}
-use Rattle.sg_rows.specs.Replies.{Replies}
+use Rattle.sg_rows.specs.Order.{Row, IsReplyOf, Passes}
+use Rattle.sg_rows.specs.Replies.{RepliesOf}
 use Rattle.sg_rows.specs.declared.fault.Fault.TheVariants.{Depth, TooLarge}
 use Rattle.sg_rows.specs.declared.fault.CallFault.TheVariants.{Script}
 use Rattle.sg_rows.proofs.Replying.{delivered}
@@ -32,18 +32,18 @@ mutual
 
 -- a list as the reply, where it is within the limits
 pub replies_list : (store : Known) (row : Row) (ds : Items Things) (es : Entries) → Passes row → row.value (list ds) → items_map (thing_at (named store)) es ≡ ds
-    → depth_of_all ds < NESTING_LIMIT → weight_of_all ds < WEIGHT_LIMIT → EachThingOfAll (IsKnown (named store)) es → Replies (Ok (value.List es)) store (fits row)
+    → depth_of_all ds < NESTING_LIMIT → weight_of_all ds < WEIGHT_LIMIT → EachThingOfAll (IsKnown (named store)) es → RepliesOf (Ok (value.List es)) store row
 replies_list store row ds es passes h is shallow light known =
     let seen : plain (named store) (value.List es) ≡ list ds = ap (data_map (thing_at (named store))) (contents-List es) ∙ ap list is in (
-      subst (λ d. IsReply (fits row) (Ok d)) (sym seen) (delivered row (list ds) (Ok (list ds)) passes h (inr ((λ f. f tt), inr ((λ deep. absurd (omega (arith, shallow, deep))), inr ((λ heavy. absurd (omega (arith, light, heavy))), refl))))),
+      subst (λ d. IsReplyOf row (Ok d)) (sym seen) (delivered row (list ds) (Ok (list ds)) passes h (inr ((λ f. f tt), inr ((λ deep. absurd (omega (arith, shallow, deep))), inr ((λ heavy. absurd (omega (arith, light, heavy))), refl))))),
       subst (EachThing (IsKnown (named store))) (sym (contents-List es)) known,
     )
 
 -- the list nests too deep
-pub replies_deep : (store : Known) (row : Row) (ds : Items Things) → Passes row → row.value (list ds) → NESTING_LIMIT ≤ depth_of_all ds → Replies (Err (Script Depth)) store (fits row)
+pub replies_deep : (store : Known) (row : Row) (ds : Items Things) → Passes row → row.value (list ds) → NESTING_LIMIT ≤ depth_of_all ds → RepliesOf (Err (Script Depth)) store row
 replies_deep store row ds passes h deep = delivered row (list ds) (Err Depth) passes h (inr ((λ f. f tt), inl (omega (arith, deep), refl)))
 
 -- the list is too heavy
-pub replies_heavy : (store : Known) (row : Row) (ds : Items Things) → Passes row → row.value (list ds) → depth_of_all ds < NESTING_LIMIT → WEIGHT_LIMIT ≤ weight_of_all ds → Replies (Err (Script TooLarge)) store (fits row)
+pub replies_heavy : (store : Known) (row : Row) (ds : Items Things) → Passes row → row.value (list ds) → depth_of_all ds < NESTING_LIMIT → WEIGHT_LIMIT ≤ weight_of_all ds → RepliesOf (Err (Script TooLarge)) store row
 replies_heavy store row ds passes h shallow heavy =
     delivered row (list ds) (Err TooLarge) passes h (inr ((λ f. f tt), inr ((λ deep. absurd (omega (arith, shallow, deep))), inl (omega (arith, heavy), refl))))

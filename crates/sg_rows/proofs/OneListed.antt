@@ -4,7 +4,7 @@ use Rattle.sg_defs.proofs.OneLemmas.{one-integer_list}
 use Rattle.sg_defs.specs.Listings.{Lists, ListsIntegers, IsCountOf}
 use Rattle.sg_apery.proofs.OneListLemmas.{one-list}
 use Rattle.sg_value.specs.Data.{int}
-use Rattle.sg_rows.specs.Values.{a_natural, integer_list, natural_list, semigroup_list, integers_with, naturals_with, semigroups_with}
+use Rattle.sg_rows.specs.Values.{a_natural, integer_list, natural_list, semigroup_list, vector_list, integers_with, naturals_with, semigroups_with, vectors_with}
 use Rattle.sg_rows.proofs.OneValue.{One}
 
 pub natural_one : (P : ℕ → Type 0) → One P → One (a_natural P)
@@ -18,6 +18,9 @@ integers_one P one d e p q = p.1 ∙ (ap integer_list (one p.0 q.0 p.2 q.2) ∙ 
 
 pub semigroups_one : (P : List (List ℕ) → Type 0) → One P → One (semigroups_with P)
 semigroups_one P one d e p q = p.1 ∙ (ap semigroup_list (one p.0 q.0 p.2 q.2) ∙ sym q.1)
+
+pub vectors_one : (P : List (List ℕ) → Type 0) → One P → One (vectors_with P)
+vectors_one P one d e p q = p.1 ∙ (ap vector_list (one p.0 q.0 p.2 q.2) ∙ sym q.1)
 
 pub lists_one : (P : ℕ → Type 0) → One (Lists P)
 lists_one P xs ys a b = one-list P xs ys a b

@@ -3,6 +3,7 @@ use Rattle.std.proofs.Common.{◌≡◌, ◌↔◌, ℕ, ℤ, Bool, true, false,
 use Rattle.sg_value.specs.Data.{Data, int, truth, semigroup, Kind}
 use Rattle.sg_defs.specs.Membership.{Generates}
 use Rattle.sg_apery.proofs.OneListLemmas.{one-minimal_list}
+use Rattle.sg_rows.specs.Asks.{Asking}
 use Rattle.sg_rows.specs.Order.{Plain, Case, unfit, fits, Checks, passed, check, FirstOf, value_checks, named_checks, Delivers, IsReply, Row}
 use Rattle.sg_rows.specs.Kinds.{given, fitted}
 use Rattle.sg_rows.specs.Values.{an_integer, whether}
@@ -24,20 +25,20 @@ delivers_one d = first_one (value_checks d) (λ s. s ≡ Ok d) (λ r s p q. p �
 -- the row of a case has at most one value
 abbrev pub OneValue : Case → Type 0
 OneValue unfit = Unit {0}
-OneValue (fits row) = One row.value
+OneValue (fits asked row) = One row.value
 
 pub reply_one : (c : Case) → OneValue c → One (IsReply c)
 reply_one unfit one r s p q = p ∙ sym q
-reply_one (fits it) one r s p q =
+reply_one (fits asked it) one r s p q =
     first_one (named_checks it) (λ t. (d : Plain) × it.value d × Delivers d t) (λ t u h k. delivers_one h.0 t u h.2 (subst (λ d. Delivers d u) (one k.0 h.0 k.1 h.1) k.2)) r s p q
 
 pub given_one : {A : Type 0} (o : Option A) (f : A → Case) → ((a : A) → OneValue (f a)) → OneValue (given o f)
 given_one None f h = tt
 given_one (Some a) f h = h a
 
-pub fitted_one : {A : Type 0} (o : Option A) (row : A → Row) → ((a : A) → One (row a).value) → OneValue (fitted o row)
-fitted_one None row h = tt
-fitted_one (Some a) row h = h a
+pub fitted_one : {A : Type 0} (o : Option A) (asks : A → List Asking) (row : A → Row) → ((a : A) → One (row a).value) → OneValue (fitted o asks row)
+fitted_one None asks row h = tt
+fitted_one (Some a) asks row h = h a
 
 pub is_one : (x : Plain) → One (λ d. d ≡ x)
 is_one x d e p q = p ∙ sym q

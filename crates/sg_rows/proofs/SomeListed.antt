@@ -6,13 +6,13 @@ use Rattle.sg_defs.specs.Membership.{IsNumericalSemigroup}
 use Rattle.sg_apery.specs.Limits.{SPAN_LIMIT}
 use Rattle.sg_laws_invariants.proofs.SpansExist.{wide-decided}
 use Rattle.sg_value.specs.Data.{int, semigroup, items_of}
-use Rattle.sg_rows.specs.Order.{Plain, fits}
-use Rattle.sg_rows.specs.Values.{integer_list, natural_list, semigroup_list, integers_with, naturals_with, semigroups_with}
+use Rattle.sg_rows.specs.Order.{Plain}
+use Rattle.sg_rows.specs.Values.{integer_list, natural_list, semigroup_list, vector_list, integers_with, naturals_with, semigroups_with, vectors_with}
 use Rattle.sg_lawful.specs.Spans.{IsWide}
 use Rattle.sg_rows.specs.Limits.{spanned}
 use Rattle.sg_lawful.specs.Lawful.{IsLawfulList}
 use Rattle.sg_rows.specs.Lawful.{AreLawful}
-use Rattle.sg_rows.proofs.SomeValue.{SomeValue, HasLawful}
+use Rattle.sg_rows.proofs.SomeValue.{HasValue, HasLawful}
 
 integer_list_lawful : (zs : List ℤ) → AreLawful (items_of (map int zs))
 integer_list_lawful [] = tt
@@ -26,11 +26,18 @@ semigroup_list_lawful : (L : List (List ℕ)) → All IsLawfulList L → AreLawf
 semigroup_list_lawful [] h = tt
 semigroup_list_lawful (G ∷ L) h = (All-head IsLawfulList G L h, semigroup_list_lawful L (All-tail IsLawfulList G L h))
 
+vector_list_lawful : (vs : List (List ℕ)) → AreLawful (items_of (map natural_list vs))
+vector_list_lawful [] = tt
+vector_list_lawful (ns ∷ vs) = (natural_list_lawful ns, vector_list_lawful vs)
+
 pub integers_some : (P : List ℤ → Type 0) → (zs : List ℤ) × P zs → HasLawful (integers_with P)
 integers_some P h = (integer_list h.0, (h.0, refl, h.1), integer_list_lawful h.0)
 
 pub naturals_some : (P : List ℕ → Type 0) → (ns : List ℕ) × P ns → HasLawful (naturals_with P)
 naturals_some P h = (natural_list h.0, (h.0, refl, h.1), natural_list_lawful h.0)
+
+pub vectors_some : (P : List (List ℕ) → Type 0) → (vs : List (List ℕ)) × P vs → HasLawful (vectors_with P)
+vectors_some P h = (vector_list h.0, (h.0, refl, h.1), vector_list_lawful h.0)
 
 pub natural_list_some : (ns : List ℕ) → HasLawful (λ d. d ≡ natural_list ns)
 natural_list_some ns = (natural_list ns, refl, natural_list_lawful ns)
@@ -44,5 +51,5 @@ no : ⊥ → ⊥
 no h = h
 
 -- a row that refuses nothing but a span past the limit
-pub spanned_some : (G : List ℕ) (P : Plain → Type 0) → IsNumericalSemigroup G → (¬ IsWide G → HasLawful P) → SomeValue (fits (spanned G P))
+pub spanned_some : (G : List ℕ) (P : Plain → Type 0) → IsNumericalSemigroup G → (¬ IsWide G → HasLawful P) → HasValue (spanned G P)
 spanned_some G P s h = (inr no, λ a. (inr no, λ b. (wide-decided G s SPAN_LIMIT, λ c. (inr no, λ d. (inr no, λ e. h c)))))

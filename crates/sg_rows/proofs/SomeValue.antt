@@ -10,6 +10,7 @@ use Rattle.sg_laws_invariants.proofs.Decisions.{decided-not, decided-lt, decided
 use Rattle.sg_laws_invariants.proofs.SemigroupDecisions.{fit_list-or_none, unfit-decided}
 use Rattle.sg_value.specs.Data.{int, truth, semigroup, weight_of, depth_of}
 use Rattle.sg_value.specs.declared.limits.TheConstants.{NESTING_LIMIT, WEIGHT_LIMIT}
+use Rattle.sg_rows.specs.Asks.{Asking}
 use Rattle.sg_rows.specs.Order.{Plain, Reply, Case, unfit, fits, Checks, passed, check, FirstOf, InBits, named_checks, value_checks, Delivers, IsReply, Row}
 use Rattle.sg_rows.specs.Kinds.{given, fitted}
 use Rattle.sg_rows.specs.Values.{answers, an_integer, a_natural, an_entry, whether, generates}
@@ -44,14 +45,18 @@ delivers_some d lawful = first_some (value_checks d) (λ s. s ≡ Ok d)
 abbrev pub HasLawful : (Plain → Type 0) → Type 0
 HasLawful P = (d : Plain) × P d × IsLawful d
 
--- a case whose conditions are decided in turn, with a value where none of them holds
+-- a row whose conditions are decided in turn, with a value where none of them holds
+abbrev pub HasValue : Row → Type 0
+HasValue row = InTurn (named_checks row) (HasLawful row.value)
+
+-- the row of the case is such a row
 abbrev pub SomeValue : Case → Type 0
 SomeValue unfit = ⊤
-SomeValue (fits it) = InTurn (named_checks it) (HasLawful it.value)
+SomeValue (fits asked row) = HasValue row
 
 pub reply_some : (c : Case) → SomeValue c → SomeReply (IsReply c)
 reply_some unfit h = (Err WrongType, refl, tt)
-reply_some (fits it) h =
+reply_some (fits asked it) h =
     first_some (named_checks it) (λ s. (d : Plain) × it.value d × Delivers d s)
     (in_turn-map (named_checks it) (HasLawful it.value) (SomeReply (λ s. (d : Plain) × it.value d × Delivers d s))
     (λ v. let r = delivers_some v.0 v.2 in (r.0, (v.0, v.1, r.1), r.2)) h)
@@ -60,19 +65,19 @@ pub given_some : {A : Type 0} (L : A → Type 0) (o : Option A) (f : A → Case)
 given_some L None f l h = tt
 given_some L (Some a) f l h = h a l
 
-pub fitted_some : {A : Type 0} (L : A → Type 0) (o : Option A) (row : A → Row) → IfSome o L → ((a : A) → L a → SomeValue (fits (row a))) → SomeValue (fitted o row)
-fitted_some L None row l h = tt
-fitted_some L (Some a) row l h = h a l
+pub fitted_some : {A : Type 0} (L : A → Type 0) (o : Option A) (asks : A → List Asking) (row : A → Row) → IfSome o L → ((a : A) → L a → HasValue (row a)) → SomeValue (fitted o asks row)
+fitted_some L None asks row l h = tt
+fitted_some L (Some a) asks row l h = h a l
 
 no : ⊥ → ⊥
 no h = h
 
 -- a row that refuses nothing
-pub answers_some : (P : Plain → Type 0) → HasLawful P → SomeValue (fits (answers P))
+pub answers_some : (P : Plain → Type 0) → HasLawful P → HasValue (answers P)
 answers_some P h = (inr no, λ a. (inr no, λ b. (inr no, λ c. (inr no, λ d. (inr no, λ e. h)))))
 
 -- a row that is not defined for some arguments
-pub bad_some : (bad : Type 0) (P : Plain → Type 0) → Decided bad → (¬ bad → HasLawful P) → SomeValue (fits (record (answers P) { bad = bad }))
+pub bad_some : (bad : Type 0) (P : Plain → Type 0) → Decided bad → (¬ bad → HasLawful P) → HasValue (record (answers P) { bad = bad })
 bad_some bad P decided h = (inr no, λ a. (decided, λ b. (inr no, λ c. (inr no, λ d. (inr no, λ e. h b)))))
 
 -- values by their kinds
@@ -97,11 +102,11 @@ generated_some P h small = elim (fit_list-or_none P h) [
 
 -- a row whose value is the numerical semigroup of the naturals with P, which exists where nothing is refused
 pub generates_some : (size bad : Type 0) (P : ℕ → Type 0) → Decided size → (¬ size → Decided bad) → (¬ size → ¬ bad → (M : List ℕ) × Generates P M) →
-    SomeValue (fits (record (generates P) { size = size; bad = bad }))
+    HasValue (record (generates P) { size = size; bad = bad })
 generates_some size bad P size_decided bad_decided made =
     (size_decided, λ a. (bad_decided a, λ b. (unfit-decided P (made a b), λ c. (inr no, λ d. (inr no, λ e. generated_some P (made a b) c)))))
 
 -- an entry of a list of integers, which has one
-pub entry_some : (P : List ℤ → ℤ → Type 0) → ((z : ℤ) (zs : List ℤ) → (x : ℤ) × P (z ∷ zs) x) → (zs : List ℤ) → SomeValue (fits (an_entry (P zs) zs))
+pub entry_some : (P : List ℤ → ℤ → Type 0) → ((z : ℤ) (zs : List ℤ) → (x : ℤ) × P (z ∷ zs) x) → (zs : List ℤ) → HasValue (an_entry (P zs) zs)
 entry_some P h [] = bad_some ([] ≡ []) (an_integer (P [])) (inl refl) (λ some. absurd (some refl))
 entry_some P h (z ∷ zs) = bad_some ((z ∷ zs) ≡ []) (an_integer (P (z ∷ zs))) (inr (λ e. cc)) (λ some. integer_some (P (z ∷ zs)) (h z zs))

@@ -1,12 +1,13 @@
 -- What functions told of rows.
 use Rattle.std.proofs.Common.{◌≡◌, ◌<◌, ◌≤◌, ◌^◌, ℕ, pos, List, length, Result, Ok, Err, refl, ap, sym, subst}
-use Rattle.std.specs.Prelude.{EachIndex, slice_index, OnOk}
+use Rattle.std.specs.Prelude.{OnOk}
 use Rattle.sg_value.specs.Data.{int}
 use Rattle.sg_value.specs.declared.limits.TheConstants.{WEIGHT_LIMIT}
 use Rattle.sg_rows.specs.Order.{Plain, Row, Passes}
 use Rattle.sg_rows.specs.Values.{answers, a_natural, natural_list, naturals_with}
 use Rattle.sg_lawful.specs.Spans.{IsShort}
 use Rattle.sg_rows.specs.Limits.{spanned}
+pub use Rattle.sg_rows.specs.Made.{AreWithinBits}
 use Rattle.sg_rows.specs.Made.{Tells}
 use Rattle.sg_rows.specs.declared.made.Made.TheVariants.{Natural, Naturals}
 use Rattle.sg_rows.specs.declared.fault.Fault.TheVariants.{TooLarge}
@@ -16,9 +17,6 @@ use Rattle.sg_rows.specs.declared.made.Made.{Made}
 use Rattle.sg_rows.proofs.Listing.{delivers_heavy_naturals}
 use Rattle.sg_rows.proofs.Replying.{answers_pass, delivered, reply_in}
 use Rattle.sg_rows.proofs.Spans.{spanned_pass}
-
-abbrev pub AreWithinBits : List ℕ → Type 0
-AreWithinBits ns = EachIndex ns (λ k. slice_index ns k < 2 ^ 63)
 
 -- what tells a value tells every row of which that is a value, where nothing refuses it
 pub tells_in : (x : Plain) (row : Row) (r : Result Made CallFault) → Passes row → row.value x → Tells r (answers (λ d. d ≡ x)) → Tells r row

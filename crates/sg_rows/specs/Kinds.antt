@@ -2,6 +2,7 @@
 use Rattle.std.specs.Prelude.{ℤ, List, [], ◌∷◌, Option, Some, None, unwrap_or}
 use Rattle.std.specs.Option.{option_map}
 use Rattle.sg_value.specs.Data.{semigroups, ideals, Data, int, list, semigroup, ideal, Items, none, item, Kind}
+use Rattle.sg_rows.specs.Asks.{Asking}
 use Rattle.sg_rows.specs.Order.{Row, Case, unfit, fits}
 
 -- ---- one argument
@@ -100,7 +101,7 @@ abbrev pub given : {A : Type 0} → Option A → (A → Case) → Case
 given None f = unfit
 given (Some a) f = f a
 
--- the row of what was taken
-abbrev pub fitted : {A : Type 0} → Option A → (A → Row) → Case
-fitted None row = unfit
-fitted (Some a) row = fits (row a)
+-- what is asked for at once, and the row, of what was taken
+abbrev pub fitted : {A : Type 0} → Option A → (A → List Asking) → (A → Row) → Case
+fitted None asks row = unfit
+fitted (Some a) asks row = fits (asks a) (row a)

@@ -1,4 +1,5 @@
 pub mod Faults
+pub mod Asks
 pub mod Order
 pub mod Kinds
 pub mod Forms

@@ -1,9 +1,10 @@
 -- What a call answers: the first refusal that comes, or the value.
-use Rattle.std.specs.Prelude.{◌≡◌, ◌⊎◌, ◌<◌, Result, Ok, Err, FitsSigned, ⊤}
+use Rattle.std.specs.Prelude.{◌≡◌, ◌⊎◌, ◌<◌, List, [], ◌++◌, Result, Ok, Err, FitsSigned, ⊤}
 use Rattle.sg_value.specs.Plain.{Things}
 use Rattle.std.specs.Int.{w64}
 use Rattle.sg_value.specs.Data.{Data, int, weight_of, depth_of, Kind}
 use Rattle.sg_value.specs.declared.limits.TheConstants.{NESTING_LIMIT, WEIGHT_LIMIT}
+use Rattle.sg_rows.specs.Asks.{Asking}
 use Rattle.sg_rows.specs.declared.fault.Fault.{Fault}
 use Rattle.sg_rows.specs.declared.fault.Fault.TheVariants.{WrongType, Overflow, BadArgument, TooLarge, TooMany, Budget, Depth}
 
@@ -26,13 +27,15 @@ pub record Row : Type 1 where
   pub many : Type 0
   -- the budget of steps is spent
   pub budget : Type 0
+  -- this is asked for once none of these refusals comes
+  pub late : List Asking
   -- this is the value
   pub value : Plain → Type 0
 
--- the arguments are of kinds that the row does not take, or the row says this of them
+-- the arguments are of kinds that the row does not take; or this is asked for at once, and the row says this of them
 pub data Case : Type 1 where
   unfit : Case
-  fits : Row → Case
+  fits : List Asking → Row → Case
 
 -- conditions in the order in which they are looked at, each with its fault
 pub data Checks : Type 1 where
@@ -62,9 +65,13 @@ abbrev pub Delivers : {H : Kind → Type 0} → Data H → Result (Data H) Fault
 Delivers d r = FirstOf (value_checks d) (λ s. s ≡ Ok d) r
 
 -- the reply is the row's value, or the first refusal
+abbrev pub IsReplyOf : Row → Reply → Type 0
+IsReplyOf row r = FirstOf (named_checks row) (λ s. (d : Plain) × row.value d × Delivers d s) r
+
+-- the reply is that of the row, where it takes arguments of these kinds
 abbrev pub IsReply : Case → Reply → Type 0
 IsReply unfit r = r ≡ Err WrongType
-IsReply (fits row) r = FirstOf (named_checks row) (λ s. (d : Plain) × row.value d × Delivers d s) r
+IsReply (fits asked row) r = IsReplyOf row r
 
 -- none of the row's own refusals comes
 pub record Passes (row : Row) : Type 0 where
@@ -73,3 +80,12 @@ pub record Passes (row : Row) : Type 0 where
   pub limit : ¬ row.limit
   pub many : ¬ row.many
   pub budget : ¬ row.budget
+
+-- one of the row's own refusals comes
+abbrev pub Refuses : Row → Type 0
+Refuses row = row.size ⊎ (row.bad ⊎ (row.limit ⊎ (row.many ⊎ row.budget)))
+
+-- what is asked for on the way to a reply, in order: also where the row refuses what it asks for at once
+abbrev pub AreAsked : Case → List Asking → Type 0
+AreAsked unfit asked = asked ≡ []
+AreAsked (fits early row) asked = (Passes row × (asked ≡ early ++ row.late)) ⊎ (Refuses row × (asked ≡ early))

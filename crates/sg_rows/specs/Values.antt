@@ -1,5 +1,5 @@
 -- Values of rows by their kinds.
-use Rattle.std.specs.Prelude.{◌≡◌, ◌↔◌, ℕ, ℤ, pos, Bool, IsTrue, List, [], map}
+use Rattle.std.specs.Prelude.{◌≡◌, ◌↔◌, ◌+◌, ℕ, suc, ℤ, pos, Bool, IsTrue, List, [], ◌∷◌, length, map}
 use Rattle.sg_defs.specs.Membership.{Generates}
 use Rattle.sg_apery.specs.Fit.{IsFit}
 use Rattle.sg_value.specs.Data.{Data, int, truth, list, semigroup, semigroups, items_of, Kind}
@@ -7,7 +7,7 @@ use Rattle.sg_rows.specs.Order.{Plain, Row}
 
 -- a row that refuses nothing by itself
 abbrev pub answers : (Plain → Type 0) → Row
-answers value = record { size = ⊥; bad = ⊥; limit = ⊥; many = ⊥; budget = ⊥; value = value }
+answers value = record { size = ⊥; bad = ⊥; limit = ⊥; many = ⊥; budget = ⊥; late = []; value = value }
 
 -- ---- single values
 
@@ -42,6 +42,15 @@ integer_list zs = list (items_of (map int zs))
 abbrev pub natural_list : {H : Kind → Type 0} → List ℕ → Data H
 natural_list ns = list (items_of (map (λ n. int (pos n)) ns))
 
+-- these vectors of naturals as a list of lists
+abbrev pub vector_list : {H : Kind → Type 0} → List (List ℕ) → Data H
+vector_list vs = list (items_of (map natural_list vs))
+
+-- the weight of these vectors in a list: each weighs 1 more than it has places
+abbrev pub weight_of_vectors : List (List ℕ) → ℕ
+weight_of_vectors [] = 0
+weight_of_vectors (ns ∷ vs) = suc (length ns) + weight_of_vectors vs
+
 -- what stands for these semigroups, as a list
 abbrev pub semigroup_list : {H : Kind → Type 0} → List (H semigroups) → Data H
 semigroup_list hs = list (items_of (map semigroup hs))
@@ -53,6 +62,10 @@ integers_with P d = (zs : List ℤ) × (d ≡ integer_list zs) × P zs
 -- a list of naturals, of which P holds
 abbrev pub naturals_with : (List ℕ → Type 0) → Plain → Type 0
 naturals_with P d = (ns : List ℕ) × (d ≡ natural_list ns) × P ns
+
+-- a list of vectors, of which P holds
+abbrev pub vectors_with : (List (List ℕ) → Type 0) → Plain → Type 0
+vectors_with P d = (vs : List (List ℕ)) × (d ≡ vector_list vs) × P vs
 
 -- a list of semigroups by their minimal lists, of which P holds
 abbrev pub semigroups_with : (List (List ℕ) → Type 0) → Plain → Type 0

@@ -1,8 +1,9 @@
 //! What every row of a command or an operator is made of: faults, kinds of arguments, and the order of refusals.
 //!
 //! A row says what a call answers over plain data, in which a semigroup or an ideal is its minimal lists: its conditions,
-//! and its value as a relation (`specs/Order`). The order in which refusals come, and the limits on every value, are
-//! stated once, for all rows. This crate knows no command and no store.
+//! and its value as a relation (`specs/Order`). Beside it stands what the call asks for, as pairs of an attribute and a
+//! minimal list (`specs/Asks`, `Forms`). The order in which refusals come, and the limits on every value, are stated once,
+//! for all rows. This crate knows no command and no store.
 //!
 //! The layer above uses: `Tells` (`specs/Made`) is the contract of every function that tells a row, by what it is told of
 //! (`OfTable` and its kin); `Replies` (`specs/Replies`) is that of every call that answers one over a store.

@@ -22,6 +22,8 @@ pub enum Made {
     Integers(Ints),
     /// A list of naturals below 2^63.
     Naturals(Nats),
+    /// A list of vectors of naturals below 2^63.
+    Vectors(Rows),
     /// A semigroup, by its minimal generators.
     Semigroup(Nats),
     /// A list of semigroups, each by its minimal generators.

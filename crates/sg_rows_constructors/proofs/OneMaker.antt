@@ -1,5 +1,5 @@
 -- The rows that make a semigroup have at most one value.
-use Rattle.std.proofs.Common.{ℤ, pos, ◌*ℤ◌, List}
+use Rattle.std.proofs.Common.{ℤ, pos, ◌*ℤ◌, List, [], ◌∷◌}
 use Rattle.std.specs.Prelude.{unsigned_abs}
 use Rattle.sg_defs.specs.Membership.{IsMember, IsIntegerMember}
 use Rattle.sg_apery.specs.Classes.{IsAboveEntry}
@@ -8,6 +8,7 @@ use Rattle.sg_apery.specs.Fundamental.{DividesNone}
 use Rattle.sg_apery.specs.Modular.{IsModular, IsProportional}
 use Rattle.sg_value.specs.Data.{Items}
 use Rattle.sg_value.specs.Plain.{Things}
+use Rattle.sg_rows.specs.Asks.{apery_table}
 use Rattle.sg_rows.proofs.FormLaws.{of_list_one, of_list_or_integers_one, of_two_integers_one, of_three_integers_one, of_two_semigroups_one, of_semigroup_then_integer_one}
 use Rattle.sg_rows.proofs.OneValue.{One, OneValue, semigroup_one}
 use Rattle.sg_rows_constructors.specs.Integers.{naturals, IsNoEntry, IsEntryOrAbove}
@@ -30,5 +31,5 @@ maker_one (OfList m) = of_list_one (integers_row m) (integers_one m)
 maker_one (OfListOrIntegers m) = of_list_or_integers_one (integers_row m) (integers_one m)
 maker_one Modular = of_two_integers_one modular_row (λ a b. semigroup_one (IsModular (unsigned_abs a) (unsigned_abs b)))
 maker_one ProportionallyModular = of_three_integers_one proportional_row (λ a b c. semigroup_one (IsProportional (unsigned_abs a) (unsigned_abs b) (unsigned_abs c)))
-maker_one Intersection = of_two_semigroups_one intersection_row (λ G H. semigroup_one (IsInBoth G H))
-maker_one Quotient = of_semigroup_then_integer_one quotient_row (λ G d. semigroup_one (λ n. IsIntegerMember G (d *ℤ pos n)))
+maker_one Intersection = of_two_semigroups_one (apery_table ∷ []) intersection_row (λ G H. semigroup_one (IsInBoth G H))
+maker_one Quotient = of_semigroup_then_integer_one (apery_table ∷ []) quotient_row (λ G d. semigroup_one (λ n. IsIntegerMember G (d *ℤ pos n)))

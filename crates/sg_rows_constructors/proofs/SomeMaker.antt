@@ -17,10 +17,10 @@ use Rattle.sg_laws_invariants.proofs.SetsExist.{closed-or_not, closed-set, gener
 use Rattle.sg_lawful.specs.Lawful.{IsLawfulList}
 use Rattle.sg_value.specs.Data.{Items}
 use Rattle.sg_value.specs.Plain.{Things}
+use Rattle.sg_rows.specs.Asks.{apery_table}
 use Rattle.sg_rows.specs.Lawful.{AreLawful}
-use Rattle.sg_rows.specs.Order.{fits}
 use Rattle.sg_rows.proofs.FormLaws.{of_list_some, of_list_or_integers_some, of_two_integers_some, of_three_integers_some, of_two_semigroups_some, of_semigroup_then_integer_some}
-use Rattle.sg_rows.proofs.SomeValue.{SomeValue, generates_some}
+use Rattle.sg_rows.proofs.SomeValue.{SomeValue, generates_some, HasValue}
 use Rattle.sg_rows_constructors.specs.Integers.{naturals, AreBelow, AreNatural, ArePositive, Generate, IsSemigroup, IsNoEntry, IsEntryOrAbove, AreGaps, AreSmallElements, AreApery, AreWithin, AreFundamental}
 use Rattle.sg_rows_constructors.specs.Rows.{apery_list_row, fundamental_gaps_row, gaps_row, generators_row, small_elements_row, modular_row, proportional_row, intersection_row, quotient_row}
 use Rattle.sg_rows_constructors.specs.Makers.{integers_row, case_of}
@@ -48,7 +48,7 @@ natural-decided zs = decided-all (λ z. pos 0 ≤ℤ z) (λ z. decided-le_z (pos
 generate-decided : (zs : List ℤ) → Decided (Generate zs)
 generate-decided zs = decided-and (ArePositive zs) (IsNumericalSemigroup (naturals zs)) (positive-decided zs) (semigroup-decided (naturals zs))
 
-generators_some : (zs : List ℤ) → SomeValue (fits (generators_row zs))
+generators_some : (zs : List ℤ) → HasValue (generators_row zs)
 generators_some zs = generates_some (¬ AreBelow zs) (¬ Generate zs) (IsMember (naturals zs))
     (decided-not (AreBelow zs) (decided-all (λ z. z <ℤ pos GENERATOR_LIMIT) (λ z. decided-lt_z z (pos GENERATOR_LIMIT)) zs))
     (λ a. decided-not (Generate zs) (generate-decided zs))
@@ -56,7 +56,7 @@ generators_some zs = generates_some (¬ AreBelow zs) (¬ Generate zs) (IsMember 
 
 -- ---- from other semigroups
 
-intersection_some : (G H : List ℕ) → IsLawfulList G → IsLawfulList H → SomeValue (fits (intersection_row G H))
+intersection_some : (G H : List ℕ) → IsLawfulList G → IsLawfulList H → HasValue (intersection_row G H)
 intersection_some G H g h = generates_some ⊥ ⊥ (IsInBoth G H) (inr no) (λ p. inr no) (λ p q. minimal_list-exists (IsInBoth G H) (both-set G H g.semigroup h.semigroup))
 
 quotient-generated : (G : List ℕ) (d : ℤ) → IsNumericalSemigroup G → ((d <ℤ pos 1) → ⊥) → (M : List ℕ) × Generates (λ n. IsIntegerMember G (d *ℤ pos n)) M
@@ -69,7 +69,7 @@ quotient-generated G (pos (suc k)) s some = same-generated (IsInQuotient G (suc 
     same : (k n : ℕ) → pos (suc k * n) ≡ pos (suc k) *ℤ pos n
     same k n = omega (arith, ints)
 
-quotient_some : (G : List ℕ) (d : ℤ) → IsLawfulList G → SomeValue (fits (quotient_row G d))
+quotient_some : (G : List ℕ) (d : ℤ) → IsLawfulList G → HasValue (quotient_row G d)
 quotient_some G d g = generates_some ⊥ (d <ℤ pos 1) (λ n. IsIntegerMember G (d *ℤ pos n)) (inr no) (λ p. decided-lt_z d (pos 1)) (λ p q. quotient-generated G d g.semigroup q)
 
 -- ---- from lists of integers
@@ -100,7 +100,7 @@ module _ (zs : List ℤ) where
   gaps-decided : Decided (AreGaps zs)
   gaps-decided = decided-and (ArePositive zs) (IsSemigroup (IsNoEntry zs)) (positive-decided zs) (generated-decided (IsNoEntry zs) none-decided (bound_z zs).0 none-from)
 
-  gaps_some : SomeValue (fits (gaps_row zs))
+  gaps_some : HasValue (gaps_row zs)
   gaps_some = generates_some ⊥ (¬ AreGaps zs) (IsNoEntry zs) (inr no) (λ p. decided-not (AreGaps zs) gaps-decided) (λ p q. (stable (AreGaps zs) gaps-decided q).1)
 
   above-decided : (n : ℕ) → Decided (IsEntryOrAbove zs n)
@@ -115,7 +115,7 @@ module _ (zs : List ℤ) where
       (decided-and (Contains zs (pos 0)) (IsClosedSet (IsEntryOrAbove zs)) (contains_z-decided zs (pos 0))
       (elim (closed-or_not (IsEntryOrAbove zs) above-decided (bound_z zs).0 above-from) [ inl closed ↦ inl closed | inr broken ↦ inr (λ h. broken.4 (h broken.0 broken.1 broken.2 broken.3)) ])))
 
-  small_some : SomeValue (fits (small_elements_row zs))
+  small_some : HasValue (small_elements_row zs)
   small_some = generates_some ⊥ (¬ AreSmallElements zs) (IsEntryOrAbove zs) (inr no) (λ p. decided-not (AreSmallElements zs) small-decided)
       (λ p q. let h = stable (AreSmallElements zs) small-decided q in
       minimal_list-exists (IsEntryOrAbove zs) (closed-set (IsEntryOrAbove zs) above-decided (bound_z zs).0 above-from (inl h.1) h.2))
@@ -123,7 +123,7 @@ module _ (zs : List ℤ) where
   apery-decided : Decided (AreApery zs)
   apery-decided = decided-and (AreNatural zs) (IsKunz (naturals zs)) (natural-decided zs) (kunz-decided (naturals zs))
 
-  apery_some : SomeValue (fits (apery_list_row zs))
+  apery_some : HasValue (apery_list_row zs)
   apery_some = generates_some ⊥ (¬ AreApery zs) (IsAboveEntry (naturals zs)) (inr no) (λ p. decided-not (AreApery zs) apery-decided)
       (λ p q. minimal_list-exists (IsAboveEntry (naturals zs)) (above-set (naturals zs) (stable (AreApery zs) apery-decided q).1))
 
@@ -145,7 +145,7 @@ fundamental-decided zs = elim (positive-decided zs) [
   ]
 ]
 
-fundamental_some : (zs : List ℤ) → SomeValue (fits (fundamental_gaps_row zs))
+fundamental_some : (zs : List ℤ) → HasValue (fundamental_gaps_row zs)
 fundamental_some zs = generates_some (¬ AreWithin zs) (¬ AreFundamental zs) (DividesNone (naturals zs))
     (decided-not (AreWithin zs) (decided-all (λ z. z ≤ℤ pos FUNDAMENTAL_GAP_LIMIT) (λ z. decided-le_z z (pos FUNDAMENTAL_GAP_LIMIT)) zs))
     (λ p. decided-not (AreFundamental zs) (fundamental-decided zs)) (λ p q. (stable (AreFundamental zs) (fundamental-decided zs) q).1)
@@ -160,12 +160,12 @@ size-positive (negsuc n) h = omega arith
 modular-generated : (a b : ℕ) → 0 < b → (M : List ℕ) × Generates (IsModular a b) M
 modular-generated a b l = same-generated (λ x. (a * x) % b ≤ 1 * x) (IsModular a b) (λ x p. omega (arith, p)) (λ x p. omega (arith, p)) (minimal_list-exists (λ x. (a * x) % b ≤ 1 * x) (modular-set a b 1 l (omega arith)))
 
-modular_some : (a b : ℤ) → SomeValue (fits (modular_row a b))
+modular_some : (a b : ℤ) → HasValue (modular_row a b)
 modular_some a b = generates_some (pos MODULUS_LIMIT <ℤ b) ((a <ℤ pos 1) ⊎ (b <ℤ pos 1)) (IsModular (unsigned_abs a) (unsigned_abs b)) (decided-lt_z (pos MODULUS_LIMIT) b)
     (λ p. decided-or (a <ℤ pos 1) (b <ℤ pos 1) (decided-lt_z a (pos 1)) (decided-lt_z b (pos 1)))
     (λ p q. modular-generated (unsigned_abs a) (unsigned_abs b) (size-positive b (λ l. q (inr l))))
 
-proportional_some : (a b c : ℤ) → SomeValue (fits (proportional_row a b c))
+proportional_some : (a b c : ℤ) → HasValue (proportional_row a b c)
 proportional_some a b c =
     generates_some (pos MODULUS_LIMIT <ℤ b) ((a <ℤ pos 1) ⊎ (b <ℤ pos 1) ⊎ (c <ℤ pos 1)) (IsProportional (unsigned_abs a) (unsigned_abs b) (unsigned_abs c)) (decided-lt_z (pos MODULUS_LIMIT) b)
     (λ p. decided-or (a <ℤ pos 1) ((b <ℤ pos 1) ⊎ (c <ℤ pos 1)) (decided-lt_z a (pos 1)) (decided-or (b <ℤ pos 1) (c <ℤ pos 1) (decided-lt_z b (pos 1)) (decided-lt_z c (pos 1))))
@@ -174,7 +174,7 @@ proportional_some a b c =
 
 -- ---- the rows
 
-integers_some : (m : IntegersMaker) (zs : List ℤ) → SomeValue (fits (integers_row m zs))
+integers_some : (m : IntegersMaker) (zs : List ℤ) → HasValue (integers_row m zs)
 integers_some ByAperyList zs = apery_some zs
 integers_some ByFundamentalGaps zs = fundamental_some zs
 integers_some ByGaps zs = gaps_some zs
@@ -186,5 +186,5 @@ maker_some (OfList m) = of_list_some (integers_row m) (integers_some m)
 maker_some (OfListOrIntegers m) = λ args l. of_list_or_integers_some (integers_row m) (integers_some m) args
 maker_some Modular = of_two_integers_some modular_row modular_some
 maker_some ProportionallyModular = of_three_integers_some proportional_row proportional_some
-maker_some Intersection = of_two_semigroups_some intersection_row intersection_some
-maker_some Quotient = of_semigroup_then_integer_some quotient_row quotient_some
+maker_some Intersection = of_two_semigroups_some (apery_table ∷ []) intersection_row intersection_some
+maker_some Quotient = of_semigroup_then_integer_some (apery_table ∷ []) quotient_row quotient_some

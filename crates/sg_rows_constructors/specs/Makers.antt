@@ -4,6 +4,7 @@ use Rattle.std.specs.Map.{lookup}
 use Rattle.std.specs.Str.{bytes_eq}
 use Rattle.sg_value.specs.Data.{Items}
 use Rattle.sg_value.specs.Plain.{Things}
+use Rattle.sg_rows.specs.Asks.{apery_table}
 use Rattle.sg_rows.specs.Order.{Row, Case}
 use Rattle.sg_rows.specs.Forms.{of_list, of_list_or_integers, of_two_integers, of_three_integers, of_two_semigroups, of_semigroup_then_integer}
 use Rattle.sg_rows_constructors.specs.Rows.{apery_list_row, fundamental_gaps_row, gaps_row, generators_row, small_elements_row, modular_row, proportional_row, intersection_row, quotient_row}
@@ -50,5 +51,5 @@ case_of (OfList m) args = of_list args (integers_row m)
 case_of (OfListOrIntegers m) args = of_list_or_integers args (integers_row m)
 case_of Modular args = of_two_integers args modular_row
 case_of ProportionallyModular args = of_three_integers args proportional_row
-case_of Intersection args = of_two_semigroups args intersection_row
-case_of Quotient args = of_semigroup_then_integer args quotient_row
+case_of Intersection args = of_two_semigroups (apery_table ∷ []) args intersection_row
+case_of Quotient args = of_semigroup_then_integer (apery_table ∷ []) args quotient_row

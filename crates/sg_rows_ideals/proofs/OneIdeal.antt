@@ -1,11 +1,12 @@
 -- The rows on relative ideals have one value.
-use Rattle.std.proofs.Common.{ℕ, ℤ, List, ap, sym, ◌∙◌}
+use Rattle.std.proofs.Common.{ℕ, ℤ, List, [], ◌∷◌, ap, sym, ◌∙◌}
 use Rattle.std.specs.Prelude.{unsigned_abs}
 use Rattle.sg_defs.specs.Ideals.{IsIdealMember, IsInMultiple, IsInTranslate, IsInCanonical, IsInMaximal}
 use Rattle.sg_ideal.specs.Value.{IsIn}
 use Rattle.sg_laws_ideals.proofs.OneIdeal.{one-minimal_ideal}
 use Rattle.sg_value.specs.Data.{ideal, semigroup, Items}
 use Rattle.sg_value.specs.Plain.{Things, RelativeIdeal}
+use Rattle.sg_rows.specs.Asks.{Attribute, apery_table, pseudo_frobenius}
 use Rattle.sg_rows.specs.Order.{Plain}
 use Rattle.sg_rows.specs.Forms.{on_two_ideals, on_integer_and_ideal, on_list_and_semigroup}
 use Rattle.sg_rows.specs.Values.{integer_list}
@@ -39,26 +40,26 @@ both_one Canonical G = an_ideal_one G (IsInCanonical G)
 
 -- ---- operators
 
-pub pair_one : (p : Pair) (a b : Plain) → OneValue (on_two_ideals a b (pair_row p))
-pair_one p = on_two_ideals_one (pair_row p) (λ I J. an_ideal_one I.ambient (InPair p (IsIn I) (IsIn J)))
+pub pair_one : (letters : List Attribute) → (p : Pair) (a b : Plain) → OneValue (on_two_ideals letters a b (pair_row p))
+pair_one letters p = on_two_ideals_one letters (pair_row p) (λ I J. an_ideal_one I.ambient (InPair p (IsIn I) (IsIn J)))
 
-pub generated_one : (a b : Plain) → OneValue (on_list_and_semigroup a b generated_row)
-generated_one = on_list_and_semigroup_one generated_row (λ zs G. an_ideal_one G (IsIdealMember G zs))
+pub generated_one : (letters : List Attribute) → (a b : Plain) → OneValue (on_list_and_semigroup letters a b generated_row)
+generated_one letters = on_list_and_semigroup_one letters generated_row (λ zs G. an_ideal_one G (IsIdealMember G zs))
 
-pub multiple_one : (a b : Plain) → OneValue (on_integer_and_ideal a b multiple_row)
-multiple_one = on_integer_and_ideal_one multiple_row (λ k I. an_ideal_one I.ambient (IsInMultiple (unsigned_abs k) (IsIn I)))
+pub multiple_one : (letters : List Attribute) → (a b : Plain) → OneValue (on_integer_and_ideal letters a b multiple_row)
+multiple_one letters = on_integer_and_ideal_one letters multiple_row (λ k I. an_ideal_one I.ambient (IsInMultiple (unsigned_abs k) (IsIn I)))
 
-pub translate_one : (a b : Plain) → OneValue (on_integer_and_ideal a b translate_row)
-translate_one = on_integer_and_ideal_one translate_row (λ x I. an_ideal_one I.ambient (IsInTranslate x (IsIn I)))
+pub translate_one : (letters : List Attribute) → (a b : Plain) → OneValue (on_integer_and_ideal letters a b translate_row)
+translate_one letters = on_integer_and_ideal_one letters translate_row (λ x I. an_ideal_one I.ambient (IsInTranslate x (IsIn I)))
 
-pub member_one : (a b : Plain) → OneValue (on_integer_and_ideal a b member_row)
-member_one = on_integer_and_ideal_one member_row (λ x I. whether_one (IsIn I x))
+pub member_one : (letters : List Attribute) → (a b : Plain) → OneValue (on_integer_and_ideal letters a b member_row)
+member_one letters = on_integer_and_ideal_one letters member_row (λ x I. whether_one (IsIn I x))
 
 -- ---- commands
 
 pub ideal_one : (c : IdealCommand) (args : Items Things) → OneValue (case_of c args)
-ideal_one (OfIdeal f) args = of_ideal_one (fact_row f) (fact_one f) args
-ideal_one (OfTable i) args = of_semigroup_one (table_row i) (table_one i) args
-ideal_one (OfBoth i) args = of_semigroup_one (both_row i) (both_one i) args
-ideal_one Generated args = of_list_then_semigroup_one generated_row (λ zs G. an_ideal_one G (IsIdealMember G zs)) args
-ideal_one (OfTwoIdeals p) args = of_two_ideals_one (pair_row p) (λ I J. an_ideal_one I.ambient (InPair p (IsIn I) (IsIn J))) args
+ideal_one (OfIdeal f) args = of_ideal_one [] (fact_row f) (fact_one f) args
+ideal_one (OfTable i) args = of_semigroup_one (apery_table ∷ []) (table_row i) (table_one i) args
+ideal_one (OfBoth i) args = of_semigroup_one (apery_table ∷ pseudo_frobenius ∷ []) (both_row i) (both_one i) args
+ideal_one Generated args = of_list_then_semigroup_one (apery_table ∷ []) generated_row (λ zs G. an_ideal_one G (IsIdealMember G zs)) args
+ideal_one (OfTwoIdeals p) args = of_two_ideals_one (apery_table ∷ []) (pair_row p) (λ I J. an_ideal_one I.ambient (InPair p (IsIn I) (IsIn J))) args

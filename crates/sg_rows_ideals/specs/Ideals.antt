@@ -4,6 +4,7 @@ use Rattle.std.specs.Map.{lookup}
 use Rattle.std.specs.Str.{bytes_eq}
 use Rattle.sg_value.specs.Data.{Items}
 use Rattle.sg_value.specs.Plain.{Things}
+use Rattle.sg_rows.specs.Asks.{apery_table, pseudo_frobenius}
 use Rattle.sg_rows.specs.Order.{Row, Case}
 use Rattle.sg_rows.specs.Forms.{of_ideal, of_semigroup, of_list_then_semigroup, of_two_ideals}
 use Rattle.sg_rows_ideals.specs.Rows.{fact_row, generated_row, canonical_row, maximal_row, pair_row}
@@ -41,8 +42,8 @@ both_row Canonical G = canonical_row G
 
 -- what the row of a command says of arguments
 abbrev pub case_of : IdealCommand → Items Things → Case
-case_of (OfIdeal f) args = of_ideal args (fact_row f)
-case_of (OfTable i) args = of_semigroup args (table_row i)
-case_of (OfBoth i) args = of_semigroup args (both_row i)
-case_of Generated args = of_list_then_semigroup args generated_row
-case_of (OfTwoIdeals p) args = of_two_ideals args (pair_row p)
+case_of (OfIdeal f) args = of_ideal [] args (fact_row f)
+case_of (OfTable i) args = of_semigroup (apery_table ∷ []) args (table_row i)
+case_of (OfBoth i) args = of_semigroup (apery_table ∷ pseudo_frobenius ∷ []) args (both_row i)
+case_of Generated args = of_list_then_semigroup (apery_table ∷ []) args generated_row
+case_of (OfTwoIdeals p) args = of_two_ideals (apery_table ∷ []) args (pair_row p)

@@ -1,5 +1,5 @@
 -- The rows of facts have at most one value.
-use Rattle.std.proofs.Common.{◌≡◌, ◌<◌, ◌≤◌, ℕ, ℤ, List, length, get_or, ap, sym, ◌∙◌, subst, arith}
+use Rattle.std.proofs.Common.{◌≡◌, ◌<◌, ◌≤◌, ℕ, ℤ, List, length, get_or, ap, sym, ◌∙◌, subst, arith, [], ◌∷◌}
 use Rattle.std.specs.Prelude.{pos, ◌-ℤ◌}
 use Rattle.std.proofs.lemmas.Int.{ints}
 use Rattle.std.proofs.lemmas.Grind.{same_number_lists}
@@ -10,6 +10,7 @@ use Rattle.sg_defs.specs.Membership.{IsMember, IsMultiplicity}
 use Rattle.sg_invar.proofs.EntryLemmas.{entry-unique}
 use Rattle.sg_value.specs.Data.{int, Items}
 use Rattle.sg_value.specs.Plain.{Things}
+use Rattle.sg_rows.specs.Asks.{apery_table, pseudo_frobenius}
 use Rattle.sg_rows.specs.Forms.{of_semigroup, of_semigroup_and_integer}
 use Rattle.sg_rows.specs.Values.{natural_list}
 use Rattle.sg_rows.proofs.Alternating.{or_else_one}
@@ -89,11 +90,11 @@ both_one : (f : BothFact) (G : List ℕ) → One (both_row f G).value
 both_one SpecialGaps G = integers_one (ListsIntegers (IsSpecialGap G)) (lists_integers_one (IsSpecialGap G))
 
 pub fact_one : (f : Fact) (args : Items Things) → OneValue (case_of f args)
-fact_one (OfGenerators f) = of_semigroup_one (generators_row f) (generators_one f)
-fact_one (OfTable f) = of_semigroup_one (table_row f) (table_one f)
-fact_one (OfNumbers f) = of_semigroup_one (numbers_row f) (numbers_one f)
-fact_one (OfBoth f) = of_semigroup_one (both_row f) (both_one f)
+fact_one (OfGenerators f) = of_semigroup_one [] (generators_row f) (generators_one f)
+fact_one (OfTable f) = of_semigroup_one (apery_table ∷ []) (table_row f) (table_one f)
+fact_one (OfNumbers f) = of_semigroup_one (pseudo_frobenius ∷ []) (numbers_row f) (numbers_one f)
+fact_one (OfBoth f) = of_semigroup_one (apery_table ∷ pseudo_frobenius ∷ []) (both_row f) (both_one f)
 fact_one AperyList = λ args.
     let own = table_row table.AperyList in
-    or_else_one (of_semigroup args own) (of_semigroup_and_integer args apery_modulo_row) (of_semigroup_one own (table_one table.AperyList) args)
-    (of_semigroup_and_integer_one apery_modulo_row (λ G n. naturals_one (IsAperyModulo G n) (one-modulo G n)) args)
+    or_else_one (of_semigroup (apery_table ∷ []) args own) (of_semigroup_and_integer (apery_table ∷ []) args apery_modulo_row) (of_semigroup_one (apery_table ∷ []) own (table_one table.AperyList) args)
+    (of_semigroup_and_integer_one (apery_table ∷ []) apery_modulo_row (λ G n. naturals_one (IsAperyModulo G n) (one-modulo G n)) args)

@@ -9,6 +9,7 @@ use Rattle.sg_defs.specs.Membership.{IsMember, IsIntegerMember, IsMultiplicity}
 use Rattle.sg_apery.specs.Limits.{APERY_MODULUS_LIMIT}
 use Rattle.sg_value.specs.Data.{int, Items}
 use Rattle.sg_value.specs.Plain.{Things}
+use Rattle.sg_rows.specs.Asks.{apery_table, pseudo_frobenius}
 use Rattle.sg_rows.specs.Order.{Row, Case}
 use Rattle.sg_rows.specs.Values.{answers, an_integer, a_natural, natural_list, naturals_with, integers_with}
 use Rattle.sg_rows.specs.Limits.{spanned}
@@ -93,8 +94,8 @@ apery_modulo_row G n = record (answers (naturals_with (IsAperyModulo G n))) {
 
 -- what the row of a command says of arguments
 abbrev pub case_of : Fact → Items Things → Case
-case_of (OfGenerators f) args = of_semigroup args (generators_row f)
-case_of (OfTable f) args = of_semigroup args (table_row f)
-case_of (OfNumbers f) args = of_semigroup args (numbers_row f)
-case_of (OfBoth f) args = of_semigroup args (both_row f)
-case_of AperyList args = or_else (of_semigroup args (table_row table.AperyList)) (of_semigroup_and_integer args apery_modulo_row)
+case_of (OfGenerators f) args = of_semigroup [] args (generators_row f)
+case_of (OfTable f) args = of_semigroup (apery_table ∷ []) args (table_row f)
+case_of (OfNumbers f) args = of_semigroup (pseudo_frobenius ∷ []) args (numbers_row f)
+case_of (OfBoth f) args = of_semigroup (apery_table ∷ pseudo_frobenius ∷ []) args (both_row f)
+case_of AperyList args = or_else (of_semigroup (apery_table ∷ []) args (table_row table.AperyList)) (of_semigroup_and_integer (apery_table ∷ []) args apery_modulo_row)

@@ -44,7 +44,7 @@ none_of (Some a) h = absurd (h refl)
 pub not_lists : (store : Known) (vs : List Value) → (IsSome (concatenated (contents_of_all vs)) → ⊥) → Replies (Err (Script WrongType)) store (concatenation_of (plain_of_all (named store) vs))
 not_lists store vs without =
     let f = thing_at (named store) in
-    subst (λ o. IsReply (given o (λ ds. fits (answers (λ d. d ≡ list ds)))) (Err WrongType)) (sym (concatenated-plain f (contents_of_all vs) ∙ ap (option_map (items_map f)) (none_of (concatenated (contents_of_all vs)) without))) refl
+    subst (λ o. IsReply (given o (λ ds. fits [] (answers (λ d. d ≡ list ds)))) (Err WrongType)) (sym (concatenated-plain f (contents_of_all vs) ∙ ap (option_map (items_map f)) (none_of (concatenated (contents_of_all vs)) without))) refl
 
 -- the arguments are lists, whose entries are ds
 module _ (store : Known) (vs : List Value) (ds : Items Places) (is : concatenated (contents_of_all vs) ≡ Some ds) where
@@ -61,7 +61,7 @@ module _ (store : Known) (vs : List Value) (ds : Items Places) (is : concatenate
   too_deep past =
       let all = items_map (thing_at (named store)) ds in
       let e = deep in
-      subst (λ o. Replies (Err (Script Depth)) store (given o (λ es. fits (answers (λ d. d ≡ list es))))) (sym seen)
+      subst (λ o. Replies (Err (Script Depth)) store (given o (λ es. fits [] (answers (λ d. d ≡ list es))))) (sym seen)
       (replies_deep store (answers (λ d. d ≡ list all)) all (answers_pass (λ d. d ≡ list all)) refl (omega (arith, e, past)))
 
   pub too_heavy : (NESTING_LIMIT < depth_of_all (contents_of_all vs) → ⊥) → WEIGHT_LIMIT ≤ weight_of_all ds → Replies (Err (Script TooLarge)) store (concatenation_of (plain_of_all (named store) vs))
@@ -69,7 +69,7 @@ module _ (store : Known) (vs : List Value) (ds : Items Places) (is : concatenate
       let all = items_map (thing_at (named store)) ds in
       let e = deep in
       let w = heavy in
-      subst (λ o. Replies (Err (Script TooLarge)) store (given o (λ es. fits (answers (λ d. d ≡ list es))))) (sym seen)
+      subst (λ o. Replies (Err (Script TooLarge)) store (given o (λ es. fits [] (answers (λ d. d ≡ list es))))) (sym seen)
       (replies_heavy store (answers (λ d. d ≡ list all)) all (answers_pass (λ d. d ≡ list all)) refl (omega (arith, e, shallow)) (omega (arith, w, past)))
 
   pub within : (NESTING_LIMIT < depth_of_all (contents_of_all vs) → ⊥) → (WEIGHT_LIMIT ≤ weight_of_all ds → ⊥) → AllKnownIn (named store) vs → (copies : Items Places) → copies ≡ ds
@@ -78,7 +78,7 @@ module _ (store : Known) (vs : List Value) (ds : Items Places) (is : concatenate
       let all = items_map (thing_at (named store)) ds in
       let e = deep in
       let w = heavy in
-      subst (λ o. Replies (Ok (value.List copies)) store (given o (λ es. fits (answers (λ d. d ≡ list es))))) (sym seen)
+      subst (λ o. Replies (Ok (value.List copies)) store (given o (λ es. fits [] (answers (λ d. d ≡ list es))))) (sym seen)
       (replies_list store (answers (λ d. d ≡ list all)) all copies (answers_pass (λ d. d ≡ list all)) refl (ap (items_map (thing_at (named store))) same) (omega (arith, e, shallow)) (omega (arith, w, light))
       (subst (EachThingOfAll (IsKnown (named store))) (sym same) (known-concatenated (IsKnown (named store)) (contents_of_all vs) ds is known)))
 

@@ -1,9 +1,10 @@
 -- The rows on lists and integers have at most one value.
-use Rattle.std.proofs.Common.{◌≡◌, ℤ, pos, List, subst, arith}
+use Rattle.std.proofs.Common.{◌≡◌, ℤ, pos, List, subst, arith, []}
 use Rattle.std.specs.Prelude.{◌≤ℤ◌, Contains, All}
 use Rattle.std.proofs.lemmas.Int.{ints}
 use Rattle.sg_value.specs.Data.{int, list, Items}
 use Rattle.sg_value.specs.Plain.{Things}
+use Rattle.sg_rows.specs.Asks.{nothing}
 use Rattle.sg_rows.specs.Entries.{entry_count}
 use Rattle.sg_rows.specs.Kinds.{as_list, one}
 use Rattle.sg_rows.specs.Order.{fits}
@@ -43,5 +44,5 @@ pub list_one : (c : ListCommand) (args : Items Things) → OneValue (case_of c a
 list_one (OfList f) = of_list_one (integers_row f) (integers_one f)
 list_one (OfListOrIntegers f) = of_list_or_integers_one (integers_row f) (integers_one f)
 list_one Length = λ args.
-    fitted_one (one as_list args) length_row (λ ds. is_one (int (pos (entry_count ds))))
-list_one Concatenation = λ args. given_one (concatenated args) (λ ds. fits (answers (λ d. d ≡ list ds))) (λ ds. is_one (list ds))
+    fitted_one (one as_list args) nothing length_row (λ ds. is_one (int (pos (entry_count ds))))
+list_one Concatenation = λ args. given_one (concatenated args) (λ ds. fits [] (answers (λ d. d ≡ list ds))) (λ ds. is_one (list ds))

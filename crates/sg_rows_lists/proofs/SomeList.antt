@@ -8,6 +8,7 @@ use Rattle.std.proofs.lemmas.List.Elements.{All-nil, All-cons}
 use Rattle.std.proofs.lemmas.Nat.Gcd.{IsGcd-from_zero, IsGcd-from_sub, IsGcd-swap, dvd-zero, dvd_trans}
 use Rattle.sg_value.specs.Data.{int, list, Items}
 use Rattle.sg_value.specs.Plain.{Things}
+use Rattle.sg_rows.specs.Asks.{nothing}
 use Rattle.sg_rows.specs.Entries.{entry_count}
 use Rattle.sg_rows.specs.Kinds.{as_list, one}
 use Rattle.sg_rows.specs.Lawful.{IsLawfulThing, AreLawful}
@@ -15,7 +16,7 @@ use Rattle.sg_rows.specs.Order.{fits}
 use Rattle.sg_rows.specs.Values.{answers, a_natural}
 use Rattle.sg_rows.proofs.FormLaws.{of_list_some, of_list_or_integers_some}
 use Rattle.sg_rows.proofs.KindLemmas.{any_some}
-use Rattle.sg_rows.proofs.SomeValue.{SomeValue, given_some, fitted_some, answers_some, bad_some, entry_some, natural_some, is_some_value}
+use Rattle.sg_rows.proofs.SomeValue.{SomeValue, given_some, fitted_some, answers_some, bad_some, entry_some, natural_some, is_some_value, HasValue}
 use Rattle.sg_rows_lists.specs.Concatenations.{concatenated}
 use Rattle.sg_rows_lists.specs.Integers.{total, IsGreatest, IsLeast, IsGcdOfAll, IsLcmOfAll}
 use Rattle.sg_rows_lists.specs.Lists.{a_number, integers_row, length_row, case_of}
@@ -79,11 +80,11 @@ concatenated_lawful : (args : Items Things) (o : Option (Items Things)) → conc
 concatenated_lawful args None e h = tt
 concatenated_lawful args (Some ds) e h = known-concatenated IsLawfulThing args ds e h
 
-number_some : (P : List ℤ → ℕ → Type 0) → ((zs : List ℤ) → (n : ℕ) × P zs n) → (zs : List ℤ) → SomeValue (fits (a_number (P zs) zs))
+number_some : (P : List ℤ → ℕ → Type 0) → ((zs : List ℤ) → (n : ℕ) × P zs n) → (zs : List ℤ) → HasValue (a_number (P zs) zs)
 number_some P exists [] = bad_some ([] ≡ []) (a_natural (P [])) (inl refl) (λ some. absurd (some refl))
 number_some P exists (z ∷ zs) = bad_some ((z ∷ zs) ≡ []) (a_natural (P (z ∷ zs))) (inr (λ e. cc)) (λ some. natural_some (P (z ∷ zs)) (exists (z ∷ zs)))
 
-integers_some : (f : IntegersFact) (zs : List ℤ) → SomeValue (fits (integers_row f zs))
+integers_some : (f : IntegersFact) (zs : List ℤ) → HasValue (integers_row f zs)
 integers_some Gcd zs = number_some IsGcdOfAll gcd-exists zs
 integers_some Lcm zs = number_some IsLcmOfAll lcm_exists zs
 integers_some Maximum zs = entry_some IsGreatest greatest-exists zs
@@ -94,6 +95,6 @@ pub list_some : (c : ListCommand) (args : Items Things) → AreLawful args → S
 list_some (OfList f) = of_list_some (integers_row f) (integers_some f)
 list_some (OfListOrIntegers f) = λ args l. of_list_or_integers_some (integers_row f) (integers_some f) args
 list_some Length = λ args l.
-    fitted_some (λ ds. ⊤) (one as_list args) length_row (any_some (one as_list args)) (λ ds u. answers_some (λ d. d ≡ int (pos (entry_count ds))) (is_some_value (int (pos (entry_count ds))) tt))
+    fitted_some (λ ds. ⊤) (one as_list args) nothing length_row (any_some (one as_list args)) (λ ds u. answers_some (λ d. d ≡ int (pos (entry_count ds))) (is_some_value (int (pos (entry_count ds))) tt))
 list_some Concatenation = λ args l.
-    given_some AreLawful (concatenated args) (λ ds. fits (answers (λ d. d ≡ list ds))) (concatenated_lawful args (concatenated args) refl l) (λ ds h. answers_some (λ d. d ≡ list ds) (is_some_value (list ds) h))
+    given_some AreLawful (concatenated args) (λ ds. fits [] (answers (λ d. d ≡ list ds))) (concatenated_lawful args (concatenated args) refl l) (λ ds h. answers_some (λ d. d ≡ list ds) (is_some_value (list ds) h))

@@ -1,5 +1,5 @@
 -- Lists one after the other.
-use Rattle.std.specs.Prelude.{◌≡◌, Option, Some, None, Result, Ok, Err}
+use Rattle.std.specs.Prelude.{◌≡◌, Option, Some, None, Result, Ok, Err, []}
 use Rattle.std.specs.Option.{option_map}
 use Rattle.sg_value.specs.Data.{list, Items, none, item, join, Kind}
 use Rattle.sg_value.specs.Plain.{Things}
@@ -17,7 +17,7 @@ concatenated _ = None
 
 -- these entries as one list
 abbrev pub concatenation_of : Items Things → Case
-concatenation_of args = given (concatenated args) (λ ds. fits (answers (λ d. d ≡ list ds)))
+concatenation_of args = given (concatenated args) (λ ds. fits [] (answers (λ d. d ≡ list ds)))
 
 -- what stands in a value's place, where a call left its answer there
 abbrev pub left_in : Value → Result (Unit {0}) CallFault → Result Value CallFault

@@ -4,6 +4,7 @@ use Rattle.std.specs.Map.{lookup}
 use Rattle.std.specs.Str.{bytes_eq}
 use Rattle.sg_value.specs.Data.{int, Items}
 use Rattle.sg_value.specs.Plain.{Things}
+use Rattle.sg_rows.specs.Asks.{nothing}
 use Rattle.sg_rows.specs.Order.{Row, Case}
 use Rattle.sg_rows.specs.Entries.{entry_count}
 use Rattle.sg_rows.specs.Forms.{of_list, of_list_or_integers}
@@ -56,5 +57,5 @@ length_row ds = answers (λ d. d ≡ int (pos (entry_count ds)))
 abbrev pub case_of : ListCommand → Items Things → Case
 case_of (OfList f) args = of_list args (integers_row f)
 case_of (OfListOrIntegers f) args = of_list_or_integers args (integers_row f)
-case_of Length args = fitted (one as_list args) length_row
+case_of Length args = fitted (one as_list args) nothing length_row
 case_of Concatenation args = concatenation_of args

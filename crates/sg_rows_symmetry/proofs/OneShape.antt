@@ -9,6 +9,7 @@ use Rattle.sg_defs.specs.Decomposition.{IsInCover, IsChosen, IsDecomposition}
 use Rattle.sg_apery.proofs.OneListLemmas.{one-minimal_list}
 use Rattle.sg_value.specs.Data.{semigroup, Items}
 use Rattle.sg_value.specs.Plain.{Things}
+use Rattle.sg_rows.specs.Asks.{apery_table, pseudo_frobenius}
 use Rattle.sg_rows.proofs.FormLaws.{of_semigroup_one}
 use Rattle.sg_rows.proofs.OneListed.{semigroups_one, lists_integers_one}
 use Rattle.sg_rows.proofs.OneValue.{One, OneValue, whether_one}
@@ -93,7 +94,7 @@ decomposition_one : (p : Decomposition) (G : List ℕ) → One (decomposition_ro
 decomposition_one IntoIrreducibles G = semigroups_one (IsDecomposition G) (one-decomposition G)
 
 pub shape_one : (s : Shape) (args : Items Things) → OneValue (case_of s args)
-shape_one (shape.TestOfGenerators t) = of_semigroup_one (generators_row t) (generators_one t)
-shape_one (shape.TestOfTable t) = of_semigroup_one (table_row t) (table_one t)
-shape_one (shape.Closure c) = of_semigroup_one (closure_row c) (closure_one c)
-shape_one (shape.Decomposition p) = of_semigroup_one (decomposition_row p) (decomposition_one p)
+shape_one (shape.TestOfGenerators t) = of_semigroup_one [] (generators_row t) (generators_one t)
+shape_one (shape.TestOfTable t) = of_semigroup_one (apery_table ∷ []) (table_row t) (table_one t)
+shape_one (shape.Closure c) = of_semigroup_one (apery_table ∷ []) (closure_row c) (closure_one c)
+shape_one (shape.Decomposition p) = of_semigroup_one (apery_table ∷ pseudo_frobenius ∷ []) (decomposition_row p) (decomposition_one p)

@@ -9,6 +9,7 @@ use Rattle.sg_defs.specs.Symmetry.{IsSymmetric, IsPseudoSymmetric, IsIrreducible
 use Rattle.sg_apery.specs.Fit.{IsFit}
 use Rattle.sg_value.specs.Data.{semigroup, Items}
 use Rattle.sg_value.specs.Plain.{Things}
+use Rattle.sg_rows.specs.Asks.{apery_table, pseudo_frobenius}
 use Rattle.sg_rows.specs.Order.{Row, Case}
 use Rattle.sg_rows.specs.Values.{answers, whether, semigroups_with}
 use Rattle.sg_lawful.specs.Spans.{IsWide}
@@ -73,7 +74,7 @@ decomposition_row IntoIrreducibles G = spanned G (semigroups_with (IsDecompositi
 
 -- what the row of a command says of arguments
 abbrev pub case_of : Shape → Items Things → Case
-case_of (shape.TestOfGenerators t) args = of_semigroup args (generators_row t)
-case_of (shape.TestOfTable t) args = of_semigroup args (table_row t)
-case_of (shape.Closure c) args = of_semigroup args (closure_row c)
-case_of (shape.Decomposition p) args = of_semigroup args (decomposition_row p)
+case_of (shape.TestOfGenerators t) args = of_semigroup [] args (generators_row t)
+case_of (shape.TestOfTable t) args = of_semigroup (apery_table ∷ []) args (table_row t)
+case_of (shape.Closure c) args = of_semigroup (apery_table ∷ []) args (closure_row c)
+case_of (shape.Decomposition p) args = of_semigroup (apery_table ∷ pseudo_frobenius ∷ []) args (decomposition_row p)

@@ -8,15 +8,12 @@ use Rattle.std.specs.Cmp.Rules.{signed_items}
 use Rattle.std.specs.Ordering.{int_eq}
 use Rattle.std.proofs.lemmas.Bool.Decides.{Decides-eqb}
 use Rattle.indexmap.specs.IndexSet.{insert_key}
-use Rattle.std.specs.HashMap.{HashMap}
-use Rattle.std.specs.declared.rc.Rc.{Rc}
-use Rattle.std.specs.Global.{Global}
 use Rattle.sg_value.specs.Data.{semigroups, ideals}
 use Rattle.sg_value.specs.Plain.{AreDistinct, RelativeIdeal, thing_at, nothing}
 use Rattle.sg_value.specs.Known.{named}
 use Rattle.sg_lawful.specs.Lawful.{IsLawfulList}
 use Rattle.sg_store.specs.Fit.{IsLawfulRelative}
-use Rattle.sg_store.specs.Held.{same_key, same_ideal_key, lists_of, list_at, ideal_of, ideals_of, known_by, AreTables, AreNumbers, AllFit, IsFitKey, AllIdealsFit}
+use Rattle.sg_store.specs.Held.{same_key, same_ideal_key, lists_of, list_at, ideal_of, ideals_of, known_by, AllFit, IsFitKey, AllIdealsFit}
 use Rattle.sg_store.specs.Interned.{Keeps, IsInterned, IsIdealInterned, with_semigroup, with_ideal}
 use Rattle.sg_store.specs.Keyed.{IsKeyOf}
 use Rattle.sg_store.specs.declared.key.Key.{Key}
@@ -197,11 +194,3 @@ key_of keys ideal_keys id k at fit =
       generators = ap (λ (i : RelativeIdeal). i.generators) (sym is);
       fit = subst IsLawfulRelative (sym is) fit.fit;
     }
-
--- ---- what is kept of ids stays theirs as lists come in
-
-pub tables_kept : {S : Type 0} (old new : List (List ℕ)) (tables : HashMap ℕ (Rc (List ℕ) Global) S) → Grows old new → AreTables old tables → AreTables new tables
-tables_kept old new tables grows are i t at = grows i t.value (are i t at)
-
-pub numbers_kept : {S : Type 0} (old new : List (List ℕ)) (kept : HashMap ℕ (Rc (List ℤ) Global) S) → Grows old new → AreNumbers old kept → AreNumbers new kept
-numbers_kept old new kept grows are i t at = let known = are i t at in (known.0, grows i known.0 known.1, known.2)

@@ -1,12 +1,7 @@
--- What a store keeps.
-use Rattle.std.specs.Prelude.{◌≡◌, ℕ, ℤ, Bool, ◌&&◌, nat_eq, List, [], map, slice_get, Some, IsSome, unwrap_or}
+-- What ids stand for.
+use Rattle.std.specs.Prelude.{◌≡◌, ℕ, Bool, ◌&&◌, nat_eq, List, [], map, slice_get, Some, IsSome, unwrap_or}
 use Rattle.std.specs.Ordering.{int_eq}
 use Rattle.std.specs.Cmp.Lexicographic.{pointwise}
-use Rattle.std.specs.HashMap.{HashMap, get}
-use Rattle.std.specs.declared.rc.Rc.{Rc}
-use Rattle.std.specs.Global.{Global}
-use Rattle.sg_defs.specs.Invariants.{IsPseudoFrobenius}
-use Rattle.sg_defs.specs.Listings.{ListsIntegers}
 use Rattle.sg_value.specs.Plain.{RelativeIdeal}
 use Rattle.sg_value.specs.Known.{Known}
 use Rattle.indexmap.specs.IndexSet.{IndexSet, IsUnique}
@@ -42,15 +37,6 @@ ideals_of lists keys = map (ideal_of lists) keys
 abbrev pub known_by : List Key → List IdealKey → Known
 known_by keys ideal_keys = record { semigroups = lists_of keys; ideals = ideals_of (lists_of keys) ideal_keys }
 
--- each table that is kept is that of the list at its id
-abbrev pub AreTables : {S : Type 0} → List (List ℕ) → HashMap ℕ (Rc (List ℕ) Global) S → Type 0
-AreTables lists tables = (i : ℕ) (t : Rc (List ℕ) Global) → get nat_eq tables i ≡ Some t → slice_get lists i ≡ Some t.value
-
--- the numbers that are kept are those of the list at their id
-abbrev pub AreNumbers : {S : Type 0} → List (List ℕ) → HashMap ℕ (Rc (List ℤ) Global) S → Type 0
-AreNumbers lists kept =
-    (i : ℕ) (t : Rc (List ℤ) Global) → get nat_eq kept i ≡ Some t → (gens : List ℕ) × (slice_get lists i ≡ Some gens) × ListsIntegers (IsPseudoFrobenius gens) t.value
-
 -- each list is fit
 abbrev pub AllFit : List Key → Type 0
 AllFit keys = (i : ℕ) (gens : List ℕ) → slice_get (lists_of keys) i ≡ Some gens → IsLawfulList gens
@@ -63,11 +49,9 @@ pub record IsFitKey (lists : List (List ℕ)) (k : IdealKey) : Type 0 where
 abbrev pub AllIdealsFit : List (List ℕ) → List IdealKey → Type 0
 AllIdealsFit lists keys = (i : ℕ) (k : IdealKey) → slice_get keys i ≡ Some k → IsFitKey lists k
 
--- each list is fit and stands there once, and so each ideal, and what is kept of an id belongs to its list
-pub record IsHeld {S R T U : Type 0} (keys : IndexSet Key S) (ideal_keys : IndexSet IdealKey R) (made_tables : HashMap ℕ (Rc (List ℕ) Global) T) (made_numbers : HashMap ℕ (Rc (List ℤ) Global) U) : Type 0 where
+-- each list is fit and stands there once, and so each ideal
+pub record AreIds {S R : Type 0} (keys : IndexSet Key S) (ideal_keys : IndexSet IdealKey R) : Type 0 where
   pub fit : AllFit keys.keys
   pub unique : IsUnique same_key keys
   pub ideals_fit : AllIdealsFit (lists_of keys.keys) ideal_keys.keys
   pub ideals_unique : IsUnique same_ideal_key ideal_keys
-  pub tables : AreTables (lists_of keys.keys) made_tables
-  pub numbers : AreNumbers (lists_of keys.keys) made_numbers

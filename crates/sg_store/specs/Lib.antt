@@ -2,3 +2,5 @@ pub mod Fit
 pub mod Interned
 pub mod Held
 pub mod Keyed
+pub mod Attributes
+pub mod OneAttribute

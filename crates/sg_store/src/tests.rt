@@ -2,16 +2,31 @@
 
 use crate::Store;
 use sg_apery::Table;
-use sg_value::Value;
 use std::test::Fail;
 
 #[test]
 fn a_list_keeps_its_id(rt: HostRuntime) -> Result<(), Fail> {
-    let mut store = Store::new(rt.alloc());
-    let table = Table::from_generators(rt.alloc(), &[5, 3, 8])?;
-    let first = store.intern(table.generators().try_clone()?)?;
-    let again = store.intern(table.generators().try_clone()?)?;
+    let table = Table::from_generators(rt.alloc(), &[3, 5])?;
+    let mut store = Store::new(rt.alloc(), 1)?;
+    let first = store.ids.intern(table.generators().try_clone()?)?;
+    let again = store.ids.intern(table.generators().try_clone()?)?;
     assert_eq!(rt; first, again);
-    assert!(rt; store.equal(&Value::Int(1), &Value::Int(1)));
+    Ok(())
+}
+
+#[test]
+fn each_attribute_is_counted(rt: HostRuntime) -> Result<(), Fail> {
+    let table = Table::from_generators(rt.alloc(), &[3, 5])?;
+    let mut store = Store::new(rt.alloc(), 1)?;
+    let id = store.ids.intern(table.generators().try_clone()?)?;
+    assert!(rt; store.table(rt.alloc(), id)?.contains(5));
+    assert!(rt; !store.table(rt.alloc(), id)?.contains(7));
+    let numbers = store.pseudo_frobenius(rt.alloc(), id)?;
+    assert_eq!(rt; numbers.as_slice(), [7].as_slice());
+    let counts = store.attributes.counts();
+    assert_eq!(rt; counts.tables_asked, 2);
+    assert_eq!(rt; counts.tables_made, 1);
+    assert_eq!(rt; counts.pseudo_asked, 1);
+    assert_eq!(rt; counts.pseudo_made, 1);
     Ok(())
 }

@@ -19,6 +19,11 @@ pub record IsFront (D M : List ℕ) (k : ℕ) : Type 0 where
   pub kept : (j : ℕ) → j < length M → Contains D (get_or M j 0) × (IsSplit D (get_or M j 0) → ⊥)
   pub whole : (j : ℕ) → j < k → Contains M (get_or D j 0) ⊎ IsSplit D (get_or D j 0)
 
+-- what is put at the end of an empty list
+pub pushed-empty : (l : List ℕ) (x : ℕ) → length l ≡ 0 → l ++ x ∷ [] ≡ x ∷ []
+pushed-empty [] x e = refl
+pushed-empty (y ∷ l) x e = absurd (omega (arith, e))
+
 module _ (D : List ℕ) (s : IsNumericalSemigroup D) (up : IsStrictlyIncreasing D) where
   rising : (i j : ℕ) → i < j → j < length D → get_or D i 0 < get_or D j 0
   rising i j l inside = AllPairs-from_increasing D up i j 0 l inside
@@ -71,9 +76,9 @@ module _ (D : List ℕ) (s : IsNumericalSemigroup D) (up : IsStrictlyIncreasing 
   ]
 
   module _ (M : List ℕ) (k : ℕ) (inside : k < length D) (f : IsFront D M k) where
-    -- one entry more, which M makes
-    pub front-skip : IsMember M (get_or D k 0) → IsFront D M (k + 1)
-    front-skip h = record {
+    -- one entry more, which is a sum
+    pub front-drop : IsSplit D (get_or D k 0) → IsFront D M (k + 1)
+    front-drop split = record {
       ascending = f.ascending;
       before = λ j i l m n. f.before j i l (omega arith) n;
       kept = f.kept;
@@ -82,22 +87,10 @@ module _ (D : List ℕ) (s : IsNumericalSemigroup D) (up : IsStrictlyIncreasing 
         | inr last ↦ let e : k ≡ j = omega arith in inr (subst (λ i. IsSplit D (get_or D i 0)) e split)
       ];
     }
-      where
-        split : IsSplit D (get_or D k 0)
-        split = elim (member-split M (get_or D k 0) h) [
-          | inl e ↦ absurd (omega (arith, e, entry-positive D s (get_or D k 0) (place-contains D k inside)))
-          | inr p ↦
-              let rest : get_or D k 0 - get_or M p.0 0 ≡ p.1 = omega (arith, p.4) in (
-                get_or M p.0 0,
-                (f.kept p.0 p.2).0,
-                f.before p.0 k p.2 (omega arith) inside,
-                subst (IsMember D) (sym rest) (holds-from_entries D M (λ j l. member-listed D (get_or M j 0) (f.kept j l).0) p.1 p.3),
-              )
-        ]
 
-    -- one entry more, which M does not make
-    pub front-push : (IsMember M (get_or D k 0) → ⊥) → IsFront D (M ++ get_or D k 0 ∷ []) (k + 1)
-    front-push out = record {
+    -- one entry more, which is none
+    pub front-keep : (IsSplit D (get_or D k 0) → ⊥) → IsFront D (M ++ get_or D k 0 ∷ []) (k + 1)
+    front-keep none = record {
       ascending = increasing-push M g f.ascending (λ x c. let p = contains-place M x c in omega (arith, f.before p.0 k p.1 (omega arith) inside, p.2));
       before = λ j i l m n. elim (push_cases M g j l) [
         | inl old ↦ omega (arith, old.1, f.before j i old.0 (omega arith) n)
@@ -116,6 +109,23 @@ module _ (D : List ℕ) (s : IsNumericalSemigroup D) (up : IsStrictlyIncreasing 
         g : ℕ
         g = get_or D k 0
 
+    -- one entry more, which M makes
+    pub front-skip : IsMember M (get_or D k 0) → IsFront D M (k + 1)
+    front-skip h = front-drop (elim (member-split M (get_or D k 0) h) [
+      | inl e ↦ absurd (omega (arith, e, entry-positive D s (get_or D k 0) (place-contains D k inside)))
+      | inr p ↦
+          let rest : get_or D k 0 - get_or M p.0 0 ≡ p.1 = omega (arith, p.4) in (
+            get_or M p.0 0,
+            (f.kept p.0 p.2).0,
+            f.before p.0 k p.2 (omega arith) inside,
+            subst (IsMember D) (sym rest) (holds-from_entries D M (λ j l. member-listed D (get_or M j 0) (f.kept j l).0) p.1 p.3),
+          )
+    ])
+
+    -- one entry more, which M does not make
+    pub front-push : (IsMember M (get_or D k 0) → ⊥) → IsFront D (M ++ get_or D k 0 ∷ []) (k + 1)
+    front-push out = front-keep none
+      where
         none : IsSplit D (get_or D k 0) → ⊥
         none p =
             let a = front-holds M k inside f p.0 p.0 (omega arith) p.2 (member-listed D p.0 p.1) in

@@ -1,11 +1,12 @@
 pub mod CircleLemmas
 pub mod ClosedLemmas
+pub mod ClosingLemmas
 pub mod CoverLemmas
+pub mod FoundLemmas
 pub mod FrontLemmas
 pub mod HalfLemmas
 pub mod KnownLemmas
 pub mod ModulusLemmas
 pub mod PartLemmas
-pub mod RelaxationLemmas
-pub mod SettledLemmas
+pub mod StepLemmas
 pub mod SumLemmas

@@ -2,7 +2,7 @@
 use Rattle.std.specs.Prelude.{◌≡◌, ℕ, ◌+◌, ◌*◌, ◌%◌, ◌<◌, ◌≤◌, ◌⊎◌, List, length, slice_index}
 use Rattle.sg_defs.specs.Membership.{IsMember}
 use Rattle.sg_classes.specs.Classes.{IsAboveEntry}
-use Rattle.sg_tables.specs.declared.relaxation.TheConstants.{UNREACHED}
+use Rattle.sg_tables.specs.declared.spread.TheConstants.{UNREACHED}
 
 -- entry 0 is 0, and each other is a member of its class, or UNREACHED where none is known
 pub record AreKnown (M t : List ℕ) : Type 0 where

@@ -12,7 +12,7 @@ ghost use Rattle.sg_tables.specs.Closed.{IsClosedUnder};
 use sg_nat::gcd;
 
 /// The class that a step leads to.
-fn next_class(class: usize, step: usize, modulus: usize) -> usize
+pub fn next_class(class: usize, step: usize, modulus: usize) -> usize
     requires class { class < modulus }
     requires step { step < modulus }
     requires short { modulus ≤ 2 ^ 62 }
@@ -27,7 +27,7 @@ fn next_class(class: usize, step: usize, modulus: usize) -> usize
 }
 
 /// Lowers the entry of the class that a generator leads to from class `from`, and says whether it did.
-fn lower(table: &mut [u64], generator: u64, from: usize, target: usize) -> bool
+pub fn lower(table: &mut [u64], generator: u64, from: usize, target: usize) -> bool
     requires from { from < length table.old }
     requires target { target ≡ (from + generator) % length table.old }
     ensures known { (M : List ℕ) → IsMember M generator → AreKnown M table.old → AreKnown M table.new }

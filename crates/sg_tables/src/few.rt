@@ -8,7 +8,7 @@ ghost use Rattle.sg_classes.specs.Table.{IsTable};
 ghost use Rattle.sg_tables.specs.Few.{IsTableOf, IsTaken};
 
 use crate::circles::go_round;
-use crate::relaxation::UNREACHED;
+use crate::spread::UNREACHED;
 use sg_classes::{GENERATOR_LIMIT, MULTIPLICITY_LIMIT, is_above_entry};
 use sg_nat::Nats;
 use std::alloc::AllocError;

@@ -4,10 +4,10 @@ ghost use Rattle.std.specs.Prelude.{◌<◌, ◌≤◌, ◌+◌, ◌%◌, ◌↔
 ghost use Rattle.sg_defs.specs.Membership.{Generates};
 ghost use Rattle.sg_classes.specs.Classes.{IsAboveEntry, IsClassList, IsKunz};
 ghost use Rattle.sg_tables.specs.Closed.{AreClassGenerators, IsClosedUnder};
-ghost use Rattle.sg_tables.specs.Relaxation.{IsSpread};
+ghost use Rattle.sg_tables.specs.Spread.{IsSpread};
 
 use crate::minimal::{minimal_part, needed_part};
-use crate::relaxation::spread;
+use crate::spread::spread;
 use sg_classes::sort_distinct;
 use sg_nat::Nats;
 use std::alloc::{AllocError, Global};

@@ -7,13 +7,20 @@
 #![tactic(auto)]
 
 mod circles;
+mod closing;
+mod counts;
 mod few;
 mod filling;
 mod kunz;
+mod leads;
+mod marks;
 mod minimal;
 mod modulus;
-mod relaxation;
+mod sources;
+mod spread;
+mod steps;
 mod sums;
+mod visits;
 
 pub use filling::{apery_list, apery_list_of_minimal};
 pub use kunz::{is_kunz, kunz_generators};

@@ -5,7 +5,7 @@ use Rattle.std.proofs.lemmas.List.Folds.{find-append}
 use Rattle.std.proofs.lemmas.Bool.Decides.{eqb_tells}
 use Rattle.sg_words.proofs.Rows.{both_false}
 use Rattle.sg_words.specs.Words as plainly
-use Rattle.sg_words.specs.Settings.{asks_of_memos, Wanted, checked, fits, is_number, is_right, most_drill, names_file, settings_of, wanted_by}
+use Rattle.sg_words.specs.Settings.{Wanted, checked, fits, is_number, is_right, most_drill, names_file, settings_of, wanted_by}
 use Rattle.sg_words.specs.Words.{Kind, Name, Place, Read, Said, Text, anywhere, at_end, behind_two, budget, cache, dashes, drill, file, file_alone, is_name, is_said, keep_going, name_in, option, option_named, other, plain, read_any, read_option, read_value, say, spelled, stats, takes_value, text_of, value_in, value_of}
 
 abbrev pub behind_one : Text → Kind
@@ -73,7 +73,7 @@ module _ (said : Said) where
   wrong file v e = ap (λ t. a && (b && (d && (fits names_file t && x)))) e ∙ ap (λ r. a && (b && r)) (and_false d) ∙ ap (λ r. a && r) (and_false b) ∙ and_false a
 
   none_asked : (n : Name) → takes_value n ≡ true → text_of n said ≡ Some hyphen → checked said ≡ None
-  none_asked n v e = ap (λ r. cond (r && not (asks_of_memos said)) (Some (wanted_by said)) None) (wrong n v e)
+  none_asked n v e = ap (λ r. cond r (Some (wanted_by said)) None) (wrong n v e)
 
 -- ---- a reading keeps what it has
 

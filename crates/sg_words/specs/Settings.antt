@@ -1,5 +1,5 @@
 -- What accepted words ask for.
-use Rattle.std.specs.Prelude.{ℕ, ◌&&◌, ◌||◌, Bool, true, not, List, length, Option, None, Some, is_some, codes, nat_le, option_map, option_and_then, if◌then◌else◌}
+use Rattle.std.specs.Prelude.{ℕ, ◌&&◌, Bool, true, not, List, length, Option, None, Some, is_some, codes, nat_le, option_map, option_and_then, if◌then◌else◌}
 use Rattle.std.specs.List.{list_all}
 use Rattle.std.specs.Option.{option_map_or}
 use Rattle.std.specs.Char.{is_ascii_digit}
@@ -54,13 +54,9 @@ wanted_by said = record {
   file = text_of file said;
 }
 
--- no memo stands yet, so that its options are refused: `--cache` and `--stats`
-abbrev pub asks_of_memos : Said → Bool
-asks_of_memos said = is_some (text_of cache said) || is_said stats said
-
 -- the same, or none where a rule is broken
 abbrev pub checked : Said → Option Wanted
-checked said = if is_right said && not (asks_of_memos said) then Some (wanted_by said) else None
+checked said = if is_right said then Some (wanted_by said) else None
 
 -- what the words ask for, or none where they break a rule
 abbrev pub settings_of : List Text → Option Wanted

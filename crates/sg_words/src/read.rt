@@ -66,9 +66,6 @@ fn settings_in<'a>(matches: &ArgMatches<'a>) -> Option<Settings<'a>>
     {
         return None;
     }
-    if matches.get_str("cache").is_some() || matches.get_flag("stats") {
-        return None;
-    }
     Some(Settings {
         budget,
         cache,

@@ -10,9 +10,9 @@ use std::alloc::AllocError;
 pub struct Settings<'a> {
     /// How many items an affine command may count, from 1 to 1,000,000.
     pub budget: u64,
-    /// How many answers each memo keeps, from 0 to 64. No memo stands yet, so that it is always 32.
+    /// How many answers each memo keeps, from 0 to 64.
     pub cache: u64,
-    /// Whether the counts of the memos are told at the end. No memo stands yet, so that it is never so.
+    /// Whether the counts of the memos are told at the end.
     pub stats: bool,
     /// Whether the run goes on behind a refused statement.
     pub keep_going: bool,

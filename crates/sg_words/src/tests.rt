@@ -38,12 +38,18 @@ fn accepted(rt: HostRuntime) -> Result<(), Fail> {
         file: Some("--stats"),
         ..PLAIN
     };
-    let rows: [(&[&str], Settings); 5] = [
+    let memos = Settings {
+        cache: 0,
+        stats: true,
+        ..PLAIN
+    };
+    let rows: [(&[&str], Settings); 6] = [
         (&[], PLAIN),
         (&["--"], PLAIN),
         (&["--budget=1000000", "é", "--keep-going", "--"], whole),
         (&["--", "--stats"], hidden),
         (&["--budget", "0000100000"], PLAIN),
+        (&["--stats", "--cache=0"], memos),
     ];
     for (words, want) in rows {
         assert!(rt; asks(rt.alloc(), words, Some(want))?);
@@ -53,7 +59,7 @@ fn accepted(rt: HostRuntime) -> Result<(), Fail> {
 
 #[test]
 fn refused(rt: HostRuntime) -> Result<(), Fail> {
-    let rows: [&[&str]; 21] = [
+    let rows: [&[&str]; 20] = [
         &[""],
         &["-"],
         &["--", "-"],
@@ -71,8 +77,7 @@ fn refused(rt: HostRuntime) -> Result<(), Fail> {
         &["--budget", "1", "--budget=1"],
         &["--budget", "1000001"],
         &["--cache", "00000000001"],
-        &["--stats"],
-        &["--cache", "32"],
+        &["--cache", "65"],
         &["--drill", "3"],
         &["--drill", "3", "f"],
     ];

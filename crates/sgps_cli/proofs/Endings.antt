@@ -1,4 +1,4 @@
--- From what stood before the last line to how the run ends.
+-- From what stood before the last lines to how the run ends.
 use Rattle.std.proofs.Common.{◌≡◌, ℕ, List, [], ◌∷◌, ◌++◌, Option, Some, None, refl, sym, ap, subst, ◌∙◌, inl, inr, arith, ◌≤◌}
 use Rattle.std.specs.Prelude.{◌⊎◌, IsSome}
 use Rattle.std.specs.Io.KnownBytes.{append_known}
@@ -12,11 +12,13 @@ use Rattle.sg_play.proofs.Plays.{one-play}
 use Rattle.sgps_cli.specs.Causes.{last_line}
 use Rattle.sg_words.specs.Settings.{Wanted}
 use Rattle.sgps_cli.specs.Input.{HasInput, IsInput}
+use Rattle.sgps_cli.specs.Statistics.{lines_with}
 use Rattle.sgps_cli.specs.Settled.{Settled, keep_of}
-use Rattle.sgps_cli.specs.Reports.{IsReport, told, failed, no_memory, IsFrontOfLastLine}
+use Rattle.sgps_cli.specs.Reports.{IsReport, told, failed, no_memory, IsFrontOfLines}
 use Rattle.sgps_cli.specs.Passed.{HasRefusals}
 use Rattle.sgps_cli.specs.Written.{Sinks, Wrote}
 use Rattle.sgps_cli.specs.Ends.{Seen, Settles, Comes, IsEarly, telling, RunsOut, SinkFaults, FailsToWrite, Ends, Closes, closed, stopped, PlaysToEnd, EndsWell}
+use Rattle.sgps_cli.specs.declared.ended.Ended.{Ended}
 use Rattle.sgps_cli.specs.declared.ending.Cause.{Cause}
 use Rattle.sgps_cli.specs.declared.ending.Cause.TheVariants as cause
 use Rattle.sgps_cli.proofs.Written.{wrote-err, wrote-twice}
@@ -31,20 +33,20 @@ front-of-none [] b e = refl
 front-of-none (x ∷ a) b e = absurd (cc)
 
 module _ (seen : Seen) (old new : Sinks) (f : SinkFaults) (r : Record) (said : List ℕ) (wrote : Wrote old new (r ++ marked err said)) where
-  -- the line of a cause was written whole
-  written-so : (line : List ℕ) → said ≡ line → Wrote old new (r ++ marked err line)
-  written-so line e = subst (λ s. Wrote old new (r ++ marked err s)) e wrote
+  -- lines were written whole
+  written-so : (lines : List ℕ) → said ≡ lines → Wrote old new (r ++ marked err lines)
+  written-so lines e = subst (λ s. Wrote old new (r ++ marked err s)) e wrote
 
-  told-whole : (c : Cause) → Comes c seen r → said ≡ last_line c → Ends c seen old new f
-  told-whole cause.Ok h e = (r, h, written-so [] e)
-  told-whole (cause.Refusals count line) h e = (r, h, written-so [] e)
-  told-whole cause.Usage h e = (r, h, written-so (last_line cause.Usage) e)
-  told-whole cause.ReadFault h e = (r, h, written-so (last_line cause.ReadFault) e)
-  told-whole cause.Overlong h e = (r, h, written-so (last_line cause.Overlong) e)
-  told-whole (cause.Script fault line) h e = (r, h, written-so (last_line (cause.Script fault line)) e)
-  told-whole (cause.Budget line) h e = (r, h, written-so (last_line (cause.Budget line)) e)
-  told-whole cause.WriteFault h e = absurd h.2
-  told-whole cause.Memory h e = absurd h.2
+  told-whole : (c : Cause) (lines : List ℕ) → Comes c seen r lines → said ≡ lines → Ends c seen old new f
+  told-whole cause.Ok lines h e = (r, lines, h, written-so lines e)
+  told-whole (cause.Refusals count line) lines h e = (r, lines, h, written-so lines e)
+  told-whole cause.Usage lines h e = (r, lines, h, written-so lines e)
+  told-whole cause.ReadFault lines h e = (r, lines, h, written-so lines e)
+  told-whole cause.Overlong lines h e = (r, lines, h, written-so lines e)
+  told-whole (cause.Script fault line) lines h e = (r, lines, h, written-so lines e)
+  told-whole (cause.Budget line) lines h e = (r, lines, h, written-so lines e)
+  told-whole cause.WriteFault lines h e = absurd h.2
+  told-whole cause.Memory lines h e = absurd h.2
 
   -- a run that had written this and this front of a line was stopped by `err`
   stopped-by-err : IsEarly seen r said → Rose f.err_before f.err_after → FailsToWrite seen old new f
@@ -55,33 +57,38 @@ module _ (seen : Seen) (old new : Sinks) (f : SinkFaults) (r : Record) (said : L
   stopped-by-out early none rose = (rose, inl (r, [], early, inl refl, written-so [] none))
 
   -- a run that had written this ran out of memory, and wrote this front of that line
-  no-memory-then : IsEarly seen r [] → IsFrontOfLastLine cause.Memory said → RunsOut seen old new
-  no-memory-then early front = (r, [], said, front.0, early, front.1, wrote)
+  no-memory-then : IsEarly seen r [] → (rest : List ℕ) → last_line cause.Memory ≡ said ++ rest → RunsOut seen old new
+  no-memory-then early rest front = (r, [], said, rest, early, front, wrote)
 
   -- a run that had written this, and this front of a line, ran out of memory
   no-memory-there : IsEarly seen r said → RunsOut seen old new
   no-memory-there early = (r, said, [], last_line cause.Memory, early, refl, subst (λ s. Wrote old new (r ++ marked err s)) (sym (append-nil said)) wrote)
 
-  reported : (c d : Cause) → Closes c seen r → IsReport c said f.err_before f.err_after d → (c ≡ cause.WriteFault → Rose f.out_before f.out_after ⊎ Rose f.err_before f.err_after) → Ends d seen old new f
-  reported c d (closed h) (told t) rose = subst (λ x. Ends x seen old new f) (sym t.same) (told-whole c h t.whole)
-  reported c d (closed h) (failed e front risen) rose = subst (λ x. Ends x seen old new f) (sym e) (stopped-by-err (telling c front.0 h front.1) risen)
-  reported c d (closed h) (no_memory e front) rose = subst (λ x. Ends x seen old new f) (sym e) (no-memory-there (telling c front.0 h front.1))
-  reported c d (stopped (inl w) early) (told t) rose =
-      subst (λ x. Ends x seen old new f) (sym (t.same ∙ w)) (stopped-by-out early (t.whole ∙ ap last_line w) (rose w))
-  reported c d (stopped (inr m) early) (told t) rose =
-      subst (λ x. Ends x seen old new f) (sym (t.same ∙ m)) (no-memory-then early ([], sym (ap last_line m) ∙ sym t.whole ∙ sym (append-nil said)))
-  reported c d (stopped (inl w) early) (failed e front risen) rose =
-      subst (λ x. Ends x seen old new f) (sym e) (stopped-by-out early (front-of-none said front.0 (sym (ap last_line w) ∙ front.1)) (inr risen))
-  reported c d (stopped (inr m) early) (failed e front risen) rose =
-      subst (λ x. Ends x seen old new f) (sym e) (inr risen, inr (risen, no-memory-then early (front.0, sym (ap last_line m) ∙ front.1)))
-  reported c d (stopped (inl w) early) (no_memory e front) rose =
-      let none = front-of-none said front.0 (sym (ap last_line w) ∙ front.1) in
-      subst (λ x. Ends x seen old new f) (sym e) (no-memory-there (subst (λ s. IsEarly seen r s) (sym none) early))
-  reported c d (stopped (inr m) early) (no_memory e front) rose =
-      subst (λ x. Ends x seen old new f) (sym e) (no-memory-then early (front.0, sym (ap last_line m) ∙ front.1))
+  -- a stop has no lines but that for want of memory
+  lines-bare : (e : Ended) (c : Cause) → e.cause ≡ c → e.counts ≡ None → lines_with e.cause e.counts ≡ last_line c
+  lines-bare e c is none = ap (lines_with e.cause) none ∙ ap last_line is
+
+  reported : (e : Ended) (d : Cause) → Closes e seen r → IsReport e said f.err_before f.err_after d → (e.cause ≡ cause.WriteFault → Rose f.out_before f.out_after ⊎ Rose f.err_before f.err_after) → Ends d seen old new f
+  reported e d (closed h) (told t) rose = subst (λ x. Ends x seen old new f) (sym t.same) (told-whole e.cause (lines_with e.cause e.counts) h t.whole)
+  reported e d (closed h) (failed is front risen) rose =
+      subst (λ x. Ends x seen old new f) (sym is) (stopped-by-err (telling e.cause front.0 (subst (Comes e.cause seen r) front.1 h)) risen)
+  reported e d (closed h) (no_memory is front) rose = subst (λ x. Ends x seen old new f) (sym is) (no-memory-there (telling e.cause front.0 (subst (Comes e.cause seen r) front.1 h)))
+  reported e d (stopped (inl w) none early) (told t) rose =
+      subst (λ x. Ends x seen old new f) (sym (t.same ∙ w)) (stopped-by-out early (t.whole ∙ lines-bare e cause.WriteFault w none) (rose w))
+  reported e d (stopped (inr m) none early) (told t) rose =
+      subst (λ x. Ends x seen old new f) (sym (t.same ∙ m)) (no-memory-then early [] (sym (lines-bare e cause.Memory m none) ∙ sym t.whole ∙ sym (append-nil said)))
+  reported e d (stopped (inl w) none early) (failed is front risen) rose =
+      subst (λ x. Ends x seen old new f) (sym is) (stopped-by-out early (front-of-none said front.0 (sym (lines-bare e cause.WriteFault w none) ∙ front.1)) (inr risen))
+  reported e d (stopped (inr m) none early) (failed is front risen) rose =
+      subst (λ x. Ends x seen old new f) (sym is) (inr risen, inr (risen, no-memory-then early front.0 (sym (lines-bare e cause.Memory m none) ∙ front.1)))
+  reported e d (stopped (inl w) none early) (no_memory is front) rose =
+      let nothing = front-of-none said front.0 (sym (lines-bare e cause.WriteFault w none) ∙ front.1) in
+      subst (λ x. Ends x seen old new f) (sym is) (no-memory-there (subst (λ s. IsEarly seen r s) (sym nothing) early))
+  reported e d (stopped (inr m) none early) (no_memory is front) rose =
+      subst (λ x. Ends x seen old new f) (sym is) (no-memory-then early front.0 (sym (lines-bare e cause.Memory m none) ∙ front.1))
 
 -- a report counts the faults of `err` from its own beginning on
-report-from : {c : Cause} {said : List ℕ} {mid now : ℕ} {end : Cause} (before : ℕ) → before ≤ mid → IsReport c said mid now end → IsReport c said before now end
+report-from : {c : Ended} {said : List ℕ} {mid now : ℕ} {end : Cause} (before : ℕ) → before ≤ mid → IsReport c said mid now end → IsReport c said before now end
 report-from before l (told t) = told t
 report-from before l (failed e front risen) = failed e front (omega arith)
 report-from before l (no_memory e front) = no_memory e front
@@ -94,10 +101,10 @@ rose-sooner a b c l r = omega arith
 pub rose-later : (a b c : ℕ) → a ≤ b → Rose b c → Rose a c
 rose-later a b c l r = omega arith
 
--- how a run ends, whatever came of its last line
-pub run-ends : (c d : Cause) (seen : Seen) (old mid new : Sinks) (f : SinkFaults) (err_mid : ℕ) (r : Record) (said : List ℕ) → Wrote old mid r → new.on_out ≡ mid.on_out → new.on_err ≡ append_known mid.on_err said →
+-- how a run ends, whatever came of its last lines
+pub run-ends : (c : Ended) (d : Cause) (seen : Seen) (old mid new : Sinks) (f : SinkFaults) (err_mid : ℕ) (r : Record) (said : List ℕ) → Wrote old mid r → new.on_out ≡ mid.on_out → new.on_err ≡ append_known mid.on_err said →
     Closes c seen r → IsReport c said err_mid f.err_after d → f.err_before ≤ err_mid → err_mid ≤ f.err_after →
-    (c ≡ cause.WriteFault → Rose f.out_before f.out_after ⊎ Rose f.err_before err_mid) → Ends d seen old new f
+    (c.cause ≡ cause.WriteFault → Rose f.out_before f.out_after ⊎ Rose f.err_before err_mid) → Ends d seen old new f
 run-ends c d seen old mid new f err_mid r said w o e h report first then rose =
     reported seen old new f r said (wrote-behind old mid new r said w o e) c d h (report-from f.err_before first report)
     (λ q. elim (rose q) [ inl x ↦ inl x | inr x ↦ inr (rose-sooner f.err_before err_mid f.err_after then x) ])
@@ -117,7 +124,7 @@ same-play seen p q s =
     let wanted : s.1.wanted ≡ q.wanted = some-same seen.settings _ _ s.1.accepted q.accepted in
     let read : IsInput seen.inputs q.wanted.file s.0 = subst (λ w. IsInput seen.inputs w.file s.0) wanted s.1.input in
     let bytes : s.0 ≡ q.bytes = same-bytes seen.inputs q.listed q.wanted.file q.bytes s.0 q.told q.input read in
-    one-play (keep_of q.wanted) (subst (λ b. Settled b (keep_of q.wanted) p) bytes (subst (λ w. Settled s.0 (keep_of w) p) wanted s.2)) q.settled
+    one-play q.wanted.budget (keep_of q.wanted) (subst (λ b. Settled b q.wanted p) bytes (subst (λ w. Settled s.0 w p) wanted s.2)) q.settled
 
 same-end : (seen : Seen) (p : Played) (q : PlaysToEnd seen.settings seen.inputs) → Settles seen p → p.ending ≡ done
 same-end seen p q s = ap (λ x. x.ending) (same-play seen p q s) ∙ q.ends
@@ -134,13 +141,13 @@ waiting-not-done e h k = absurd (let x : waiting ≡ done = sym h ∙ k in cc)
 -- a script that is played to its end ends Ok, as Refusals, or for want of memory, where nothing failed
 pub ends-well : (c : Cause) (seen : Seen) (old new : Sinks) (f : SinkFaults) → Ends c seen old new f → (q : PlaysToEnd seen.settings seen.inputs) →
     (Rose seen.faults_before seen.faults_after → ⊥) → (Rose f.out_before f.out_after → ⊥) → (Rose f.err_before f.err_after → ⊥) → EndsWell c q.play.refusals
-ends-well cause.Ok seen old new f h q s o e = let p = h.1 in sym (ap (λ x. x.refusals) (same-play seen p.0 q p.1)) ∙ p.2.1
-ends-well (cause.Refusals count line) seen old new f h q s o e = let p = h.1 in subst (λ x. HasRefusals x.refusals count line) (same-play seen p.0 q p.1) p.2.1
-ends-well cause.Usage seen old new f h q s o e = none-accepted seen.settings q.wanted h.1.0 q.accepted
-ends-well cause.ReadFault seen old new f h q s o e = absurd (s h.1.0)
-ends-well cause.Overlong seen old new f h q s o e = let p = h.1 in waiting-not-done p.0.ending p.2 (same-end seen p.0 q p.1)
-ends-well (cause.Script f' line) seen old new f h q s o e = let p = h.1 in refused-not-done f' line p.0.ending p.2.0 (same-end seen p.0 q p.1)
-ends-well (cause.Budget line) seen old new f h q s o e = let p = h.1 in refused-not-done fault.Budget line p.0.ending p.2 (same-end seen p.0 q p.1)
+ends-well cause.Ok seen old new f h q s o e = let p = h.2 in sym (ap (λ x. x.refusals) (same-play seen p.0 q p.1)) ∙ p.2.1
+ends-well (cause.Refusals count line) seen old new f h q s o e = let p = h.2 in subst (λ x. HasRefusals x.refusals count line) (same-play seen p.0 q p.1) p.2.1
+ends-well cause.Usage seen old new f h q s o e = none-accepted seen.settings q.wanted h.2.0 q.accepted
+ends-well cause.ReadFault seen old new f h q s o e = absurd (s h.2.0)
+ends-well cause.Overlong seen old new f h q s o e = let p = h.2 in waiting-not-done p.0.ending p.2 (same-end seen p.0 q p.1)
+ends-well (cause.Script f' line) seen old new f h q s o e = let p = h.2 in refused-not-done f' line p.0.ending p.2.0 (same-end seen p.0 q p.1)
+ends-well (cause.Budget line) seen old new f h q s o e = let p = h.2 in refused-not-done fault.Budget line p.0.ending p.2 (same-end seen p.0 q p.1)
 ends-well cause.WriteFault seen old new f h q s o e = elim h.0 [ inl r ↦ absurd (o r) | inr r ↦ absurd (e r) ]
 ends-well cause.Memory seen old new f h q s o e = tt
 

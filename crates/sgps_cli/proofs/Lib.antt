@@ -10,3 +10,4 @@ pub mod Settling
 pub mod Beginning
 pub mod Closing
 pub mod Endings
+pub mod Statistics

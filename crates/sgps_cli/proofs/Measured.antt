@@ -9,7 +9,7 @@ use Rattle.sg_window.specs.Finds.{FindsStatement, WantsMore}
 use Rattle.sg_window.proofs.Holding.{holds_at_once}
 use Rattle.sgps_cli.specs.Playing.{Begun, IsReached, ReadsMore, IsGoing, work_of}
 use Rattle.sgps_cli.specs.Playing.{ReadsMore as reads}
-use Rattle.sg_meaning.specs.Vars.{Vars}
+use Rattle.sg_eval.specs.State.{State as Machine}
 use Rattle.sgps_cli.specs.Written.{Sinks}
 use Rattle.sgps_cli.specs.declared.passed.Passed.{Passed}
 use Rattle.sgps_cli.proofs.Counting.{counted-length}
@@ -57,5 +57,5 @@ more-shrinks passed w w' w'' got rest t m taken over (reads.fails none is few) g
 more-shrinks passed w w' w'' got rest t m taken over (reads.full none is all) g = absurd g
 
 -- what is counted and what is held is no more than a script may have
-pub counted-fits : {b : Begun} {w : State} {vars : Vars} {passed : Passed} {rest : Option (List ℕ)} {now : Sinks} → IsReached b w vars passed rest now → passed.count + length w.rest ≤ SCRIPT_LIMIT
+pub counted-fits : {b : Begun} {w : State} {m : Machine} {passed : Passed} {rest : Option (List ℕ)} {now : Sinks} → IsReached b w m passed rest now → passed.count + length w.rest ≤ SCRIPT_LIMIT
 counted-fits {passed = passed} r = omega (arith, counted-length r.refusals passed r.passes, r.few, r.taken, r.within, holds-less r.holds)

@@ -59,27 +59,27 @@ cut-off : (limit : ℕ) (bytes rest : List ℕ) → length bytes ≤ limit → t
 cut-off limit bytes rest l = let e : limit ≡ length bytes + (limit - length bytes) = omega arith in ap (λ n. take n (bytes ++ rest)) e ∙ take-append-add bytes rest (limit - length bytes)
 
 -- what was played without waiting for more is what the whole script comes to
-module _ (limit : ℕ) (keep : Bool) (bytes rest : List ℕ) (p : Played) where
+module _ (limit budget : ℕ) (keep : Bool) (bytes rest : List ℕ) (p : Played) where
   -- where these are all bytes
-  pub settled-whole : length bytes < limit → rest ≡ [] → Play bytes true keep p → Play (take limit (bytes ++ rest)) (nat_lt (length (bytes ++ rest)) limit) keep p
+  pub settled-whole : length bytes < limit → rest ≡ [] → Play bytes true budget keep p → Play (take limit (bytes ++ rest)) (nat_lt (length (bytes ++ rest)) limit) budget keep p
   settled-whole l e d =
       let same : bytes ++ rest ≡ bytes = ap (λ r. bytes ++ r) e ∙ append-nil bytes in
-      subst (λ b. Play (take limit b) (nat_lt (length b) limit) keep p) (sym same)
-      (subst (λ b. Play b (nat_lt (length bytes) limit) keep p) (sym (take_all limit bytes (omega arith))) (subst (λ w. Play bytes w keep p) (sym (lt-ltb (length bytes) limit l)) d))
+      subst (λ b. Play (take limit b) (nat_lt (length b) limit) budget keep p) (sym same)
+      (subst (λ b. Play b (nat_lt (length bytes) limit) budget keep p) (sym (take_all limit bytes (omega arith))) (subst (λ w. Play bytes w budget keep p) (sym (lt-ltb (length bytes) limit l)) d))
 
   -- where they are as many as a script may have
-  pub settled-limit : length bytes ≡ limit → Play bytes false keep p → Play (take limit (bytes ++ rest)) (nat_lt (length (bytes ++ rest)) limit) keep p
+  pub settled-limit : length bytes ≡ limit → Play bytes false budget keep p → Play (take limit (bytes ++ rest)) (nat_lt (length (bytes ++ rest)) limit) budget keep p
   settled-limit l d =
       let zero : limit - length bytes ≡ 0 = omega arith in
       let none : take (limit - length bytes) rest ≡ [] = ap (λ n. take n rest) zero in
       let same : bytes ≡ take limit (bytes ++ rest) = sym (append-nil bytes) ∙ ap (λ r. bytes ++ r) (sym none) ∙ sym (cut-off limit bytes rest (omega arith)) in
-      subst (λ b. Play b (nat_lt (length (bytes ++ rest)) limit) keep p) same (subst (λ w. Play bytes w keep p) (sym (le-ltb (length (bytes ++ rest)) limit (omega (arith, length-append bytes rest)))) d)
+      subst (λ b. Play b (nat_lt (length (bytes ++ rest)) limit) budget keep p) same (subst (λ w. Play bytes w budget keep p) (sym (le-ltb (length (bytes ++ rest)) limit (omega (arith, length-append bytes rest)))) d)
 
   -- where the play ended before more was read
-  pub settled-early : length bytes ≤ limit → (p.ending ≡ waiting → ⊥) → Play bytes false keep p → Play (take limit (bytes ++ rest)) (nat_lt (length (bytes ++ rest)) limit) keep p
+  pub settled-early : length bytes ≤ limit → (p.ending ≡ waiting → ⊥) → Play bytes false budget keep p → Play (take limit (bytes ++ rest)) (nat_lt (length (bytes ++ rest)) limit) budget keep p
   settled-early l ended d =
-      subst (λ b. Play b (nat_lt (length (bytes ++ rest)) limit) keep p) (sym (cut-off limit bytes rest l)) (ended-stays keep d (take (limit - length bytes) rest) (nat_lt (length (bytes ++ rest)) limit) ended)
+      subst (λ b. Play b (nat_lt (length (bytes ++ rest)) limit) budget keep p) (sym (cut-off limit bytes rest l)) (ended-stays budget keep d (take (limit - length bytes) rest) (nat_lt (length (bytes ++ rest)) limit) ended)
 
 -- what was left stands in the whole script too
-pub left-in-whole : (limit : ℕ) (keep : Bool) (bytes rest : List ℕ) (r : Record) → length bytes ≤ limit → IsLeft bytes keep r → IsLeft (take limit (bytes ++ rest)) keep r
-left-in-whole limit keep bytes rest r l h = subst (λ b. IsLeft b keep r) (sym (cut-off limit bytes rest l)) (left-longer (take (limit - length bytes) rest) h)
+pub left-in-whole : (limit budget : ℕ) (keep : Bool) (bytes rest : List ℕ) (r : Record) → length bytes ≤ limit → IsLeft bytes budget keep r → IsLeft (take limit (bytes ++ rest)) budget keep r
+left-in-whole limit budget keep bytes rest r l h = subst (λ b. IsLeft b budget keep r) (sym (cut-off limit bytes rest l)) (left-longer (take (limit - length bytes) rest) h)

@@ -13,7 +13,9 @@ use Rattle.sgps_cli.specs.Passed.{HasRefusals}
 use Rattle.sgps_cli.specs.Written.{Sinks, Wrote}
 use Rattle.sgps_cli.specs.Input.{IsInput, IsTaken}
 use Rattle.sgps_cli.specs.Settled.{Settled, keep_of}
+use Rattle.sgps_cli.specs.Statistics.{last_lines, lines_with}
 use Rattle.sgps_cli.specs.declared.ending.Cause.{Cause}
+use Rattle.sgps_cli.specs.declared.ended.Ended.{Ended}
 use Rattle.sgps_cli.specs.declared.ending.Cause.TheVariants as cause
 
 -- what a run was asked for, what its source told when it began, and how its source stood at the end
@@ -35,7 +37,7 @@ pub record Reads (seen : Seen) (b : List ℕ) : Type 0 where
 
 -- the whole script came to this play
 abbrev pub Settles : Seen → Played → Type 0
-Settles seen p = (b : List ℕ) × (r : Reads seen b) × Settled b (keep_of r.wanted) p
+Settles seen p = (b : List ℕ) × (r : Reads seen b) × Settled b r.wanted p
 
 -- the part of the input that was taken, played as if more may follow, waits for more
 pub record WaitsForMore (seen : Seen) (p : Played) : Type 0 where
@@ -44,7 +46,7 @@ pub record WaitsForMore (seen : Seen) (p : Played) : Type 0 where
   pub begun : seen.begun ≡ true
   pub bytes : List ℕ
   pub taken : IsTaken seen.inputs wanted.file seen.left bytes
-  pub played : Play bytes false (keep_of wanted) p
+  pub played : Play bytes false wanted.budget (keep_of wanted) p
   pub waits : p.ending ≡ waiting
 
 -- as many bytes were taken as a script may have, and no statement inside them ends the run
@@ -72,12 +74,12 @@ IsCauseOf cause.ReadFault p = ⊥
 IsCauseOf cause.WriteFault p = ⊥
 IsCauseOf cause.Memory p = ⊥
 
--- the condition of a cause, and the record that stands before its line
-abbrev pub Comes : Cause → Seen → Record → Type 0
-Comes cause.Usage seen body = (seen.settings ≡ None) × (body ≡ [])
-Comes cause.ReadFault seen body =
-    Rose seen.faults_before seen.faults_after × (CouldNotBegin seen × (body ≡ []) ⊎ ((p : Played) × WaitsForMore seen p × (body ≡ p.written)))
-Comes c seen body = (p : Played) × Settles seen p × IsCauseOf c p × (body ≡ p.written)
+-- the condition of a cause, the record that stands before its last lines, and these lines
+abbrev pub Comes : Cause → Seen → Record → List ℕ → Type 0
+Comes cause.Usage seen body lines = (seen.settings ≡ None) × (body ≡ []) × (lines ≡ last_line cause.Usage)
+Comes cause.ReadFault seen body lines =
+    Rose seen.faults_before seen.faults_after × (CouldNotBegin seen × (body ≡ []) ⊎ ((p : Played) × WaitsForMore seen p × (body ≡ p.written))) × (lines ≡ last_line cause.ReadFault)
+Comes c seen body lines = (p : Played) × (s : Settles seen p) × IsCauseOf c p × (body ≡ p.written) × (lines ≡ last_lines s.1.wanted c p.asked)
 
 -- no more was taken of the input than so many bytes
 abbrev pub TakesUpTo : Seen → ℕ → Type 0
@@ -97,18 +99,14 @@ ReadsInOnePass cause.WriteFault seen = ⊤
 ReadsInOnePass cause.Memory seen = ⊤
 ReadsInOnePass c seen = IsNear c seen
 
--- the whole record of a cause: its line follows what stands before it
-abbrev pub full : Cause → Record → Record
-full c body = body ++ marked err (last_line c)
-
--- A run that was stopped had written this, while its script was played, and this front of a last line. The first is a
+-- A run that was stopped had written this, while its script was played, and this front of its last lines. The first is a
 -- front of what the whole script writes, for every play that the script has. There is at most one, and that there
 -- always is one is no part of this definition: so it also says what was played, whole statements and a part of one.
 pub data IsEarly (seen : Seen) : Record → List ℕ → Type 0 where
   nothing : IsEarly seen [] []
-  playing : {r : Record} (b : List ℕ) (reads : Reads seen b) → IsLeft (take SCRIPT_LIMIT b) (keep_of reads.wanted) r
-      → ((p : Played) → Settled b (keep_of reads.wanted) p → IsFrontOf r p.written) → IsEarly seen r []
-  telling : {r : Record} {said : List ℕ} (c : Cause) (rest : List ℕ) → Comes c seen r → last_line c ≡ said ++ rest → IsEarly seen r said
+  playing : {r : Record} (b : List ℕ) (reads : Reads seen b) → IsLeft (take SCRIPT_LIMIT b) reads.wanted.budget (keep_of reads.wanted) r
+      → ((p : Played) → Settled b reads.wanted p → IsFrontOf r p.written) → IsEarly seen r []
+  telling : {r : Record} {said : List ℕ} (c : Cause) (rest : List ℕ) → Comes c seen r (said ++ rest) → IsEarly seen r said
 
 -- a run that was stopped wrote what it had written, and a front of the line for want of memory
 abbrev pub RunsOut : Seen → Sinks → Sinks → Type 0
@@ -122,29 +120,29 @@ pub record SinkFaults : Type 0 where
   pub err_before : ℕ
   pub err_after : ℕ
 
--- a sink failed; a part of a last line is there only where `err` failed, and so is a line for want of memory
+-- a sink failed; a part of the last lines is there only where `err` failed, and so is a line for want of memory
 abbrev pub FailsToWrite : Seen → Sinks → Sinks → SinkFaults → Type 0
 FailsToWrite seen old new f =
     (Rose f.out_before f.out_after ⊎ Rose f.err_before f.err_after)
     × (((r : Record) × (said : List ℕ) × IsEarly seen r said × ((said ≡ []) ⊎ Rose f.err_before f.err_after) × Wrote old new (r ++ marked err said))
     ⊎ (Rose f.err_before f.err_after × RunsOut seen old new))
 
--- how a run ends: with the whole record of its cause, or stopped by a sink or for want of memory
+-- how a run ends: with the whole record of its cause and its last lines, or stopped by a sink or for want of memory
 abbrev pub Ends : Cause → Seen → Sinks → Sinks → SinkFaults → Type 0
 Ends cause.WriteFault seen old new f = FailsToWrite seen old new f
 Ends cause.Memory seen old new f = RunsOut seen old new
-Ends c seen old new f = (body : Record) × Comes c seen body × Wrote old new (full c body)
+Ends c seen old new f = (body : Record) × (lines : List ℕ) × Comes c seen body lines × Wrote old new (body ++ marked err lines)
 
--- how a run ends before its last line is written: with the record that stands before the line of its cause, or stopped
-pub data Closes (c : Cause) (seen : Seen) (r : Record) : Type 0 where
-  closed : Comes c seen r → Closes c seen r
-  stopped : (c ≡ cause.WriteFault) ⊎ (c ≡ cause.Memory) → IsEarly seen r [] → Closes c seen r
+-- how a run ends before its last lines are written: with the record that stands before them, or stopped
+pub data Closes (e : Ended) (seen : Seen) (r : Record) : Type 0 where
+  closed : Comes e.cause seen r (lines_with e.cause e.counts) → Closes e seen r
+  stopped : (e.cause ≡ cause.WriteFault) ⊎ (e.cause ≡ cause.Memory) → e.counts ≡ None → IsEarly seen r [] → Closes e seen r
 
 -- the same; a run is too long exactly at the limit, and reads its input in one pass
-pub record IsClosed (c : Cause) (seen : Seen) (r : Record) : Type 0 where
-  pub closes : Closes c seen r
-  pub overlong : IsOverlongAtLimit c seen
-  pub one_pass : ReadsInOnePass c seen
+pub record IsClosed (e : Ended) (seen : Seen) (r : Record) : Type 0 where
+  pub closes : Closes e seen r
+  pub overlong : IsOverlongAtLimit e.cause seen
+  pub one_pass : ReadsInOnePass e.cause seen
 
 -- the source tells the input that the words name, and the script in it is played to its end
 pub record PlaysToEnd (settings : Option Wanted) (inputs : Option (List Input)) : Type 0 where
@@ -155,7 +153,7 @@ pub record PlaysToEnd (settings : Option Wanted) (inputs : Option (List Input)) 
   pub bytes : List ℕ
   pub input : input_named wanted.file listed ≡ Some bytes
   pub play : Played
-  pub settled : Settled bytes (keep_of wanted) play
+  pub settled : Settled bytes wanted play
   pub ends : play.ending ≡ done
 
 -- the end of a script that is played to its end: Ok, or Refusals where statements were refused; or want of memory

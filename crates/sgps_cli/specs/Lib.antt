@@ -5,4 +5,5 @@ pub mod Input
 pub mod Settled
 pub mod Playing
 pub mod Reports
+pub mod Statistics
 pub mod Ends

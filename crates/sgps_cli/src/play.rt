@@ -5,19 +5,21 @@ ghost use Rattle.std.specs.Io.KnownBytes.{append_known, prepend_known};
 ghost use Rattle.sg_io.specs.Faults.{HasCauseAt, Rose};
 ghost use Rattle.sg_cut.specs.declared.limits.TheConstants.{SCRIPT_LIMIT, STATEMENT_LIMIT};
 ghost use Rattle.sg_eval.specs.Machine.{state_of};
+ghost use Rattle.sg_store.specs.Attributes.{AreCounts, Attributes, nothing_asked};
 ghost use Rattle.sg_play.specs.Record.{Record};
 ghost use Rattle.sgps_cli.specs.Playing.{Acts, Begun, Concludes, Executed, IsGoing, IsReached, ReadsMore, Turns, work_of};
 ghost use Rattle.sgps_cli.specs.Written.{Sinks, Wrote};
 
 use crate::ending::Cause;
 use crate::passed::{Passed, refusal};
+use crate::plan::{Finish, Plan};
 use crate::report::write_fault;
 use sg_calls::Fault;
 use sg_cut::SCRIPT_LIMIT;
 use sg_eval::{Flow, Machine, StepFault};
 use sg_io::{Sink, SinkFault, Source};
 use sg_script::{ParseFault, parse};
-use sg_store::Store;
+use sg_store::{Counts, Store};
 use sg_window::{Cut, Window};
 use std::alloc::Global;
 
@@ -30,19 +32,20 @@ enum Turn {
     Stops(Cause),
 }
 
-/// Plays an input that was begun, from its first byte and with no variable, and says what ends the run. No more is read
-/// before each statement that was read whole is executed. Refused statements are passed where `keep` holds.
+/// Plays an input that was begun, from its first byte and with no variable, and says what ends the run, and what was
+/// counted by then. No more is read before each statement that was read whole is executed.
 pub fn play<S: Source, W: Sink, E: Sink>(
     alloc: Global,
-    keep: bool,
+    plan: Plan,
     source: &mut S,
     out: &mut W,
     err: &mut E,
-) -> Cause
+) -> Finish
     requires { S.begun source.old ≡ true }
-    ensures plays { Concludes result (record { keep = keep; all = S.left source.old; sinks = record { on_out = W.taken out.old; on_err = E.taken err.old } }) (S.left source.new) (record { on_out = W.taken out.new; on_err = E.taken err.new }) }
-    ensures read_fault { result ≡ Cause.ReadFault → Rose (S.faults source.old) (S.faults source.new) }
-    ensures write_fault { result ≡ Cause.WriteFault → Rose (W.faults out.old) (W.faults out.new) ⊎ Rose (E.faults err.old) (E.faults err.new) }
+    ensures plays { (kept : Attributes) × AreCounts kept result.counts
+        × Concludes result.cause (record { plan = plan; all = S.left source.old; sinks = record { on_out = W.taken out.old; on_err = E.taken err.old } }) kept (S.left source.new) (record { on_out = W.taken out.new; on_err = E.taken err.new }) }
+    ensures read_fault { result.cause ≡ Cause.ReadFault → Rose (S.faults source.old) (S.faults source.new) }
+    ensures write_fault { result.cause ≡ Cause.WriteFault → Rose (W.faults out.old) (W.faults out.new) ⊎ Rose (E.faults err.old) (E.faults err.new) }
     ensures source_faults { S.faults source.old ≤ S.faults source.new }
     ensures out_faults { W.faults out.old ≤ W.faults out.new }
     ensures err_faults { E.faults err.old ≤ E.faults err.new }
@@ -55,14 +58,18 @@ pub fn play<S: Source, W: Sink, E: Sink>(
 {
     let mut window = match Window::new(alloc) {
         Ok(window) => window,
-        Err(_) => return Cause::Memory,
+        Err(_) => return unplayed(),
     };
-    let mut machine = Machine::new(alloc, Store::new(alloc));
+    let store = match Store::new(alloc, plan.capacity) {
+        Ok(store) => store,
+        Err(_) => return unplayed(),
+    };
+    let mut machine = Machine::new(alloc, store, plan.budget);
     let mut passed = Passed { count: 0, line: 0 };
     loop {
         match take_turn(
             alloc,
-            keep,
+            plan,
             &mut window,
             &mut machine,
             passed,
@@ -71,15 +78,31 @@ pub fn play<S: Source, W: Sink, E: Sink>(
             err,
         ) {
             Turn::Goes(now) => passed = now,
-            Turn::Stops(cause) => return cause,
+            Turn::Stops(cause) => return Finish::new(cause, machine.counts()),
         }
+    }
+}
+
+/// Nothing was played for want of memory.
+fn unplayed() -> Finish
+    ensures cause { result.cause ≡ Cause.Memory }
+    ensures counts { AreCounts (nothing_asked 0) result.counts }
+{
+    Finish {
+        cause: Cause::Memory,
+        counts: Counts {
+            tables_asked: 0,
+            tables_made: 0,
+            pseudo_asked: 0,
+            pseudo_made: 0,
+        },
     }
 }
 
 /// Looks for the next statement and executes it, or reads more where there is none.
 fn take_turn<S: Source, W: Sink, E: Sink>(
     alloc: Global,
-    keep: bool,
+    plan: Plan,
     window: &mut Window,
     machine: &mut Machine,
     passed: Passed,
@@ -89,8 +112,8 @@ fn take_turn<S: Source, W: Sink, E: Sink>(
 ) -> Turn
     requires begun { S.begun source.old ≡ true }
     requires fits { passed.count + length window.old.rest ≤ SCRIPT_LIMIT }
-    ensures turns { (b : Begun) → IsReached (record b { keep = keep }) window.old (state_of machine.old).variables passed (S.left source.old) (record { on_out = W.taken out.old; on_err = E.taken err.old })
-        → Turns result (record b { keep = keep }) window.new (state_of machine.new).variables (S.left source.new) (record { on_out = W.taken out.new; on_err = E.taken err.new }) }
+    ensures turns { (b : Begun) → IsReached (record b { plan = plan }) window.old (state_of machine.old) passed (S.left source.old) (record { on_out = W.taken out.old; on_err = E.taken err.old })
+        → Turns result (record b { plan = plan }) window.new (state_of machine.new) (S.left source.new) (record { on_out = W.taken out.new; on_err = E.taken err.new }) }
     ensures shrinks { IsGoing result → work_of window.new < work_of window.old }
     ensures read_fault { result ≡ Turn.Stops Cause.ReadFault → Rose (S.faults source.old) (S.faults source.new) }
     ensures write_fault { result ≡ Turn.Stops Cause.WriteFault → Rose (W.faults out.old) (W.faults out.new) ⊎ Rose (E.faults err.old) (E.faults err.new) }
@@ -106,7 +129,16 @@ fn take_turn<S: Source, W: Sink, E: Sink>(
 {
     match window.next_statement() {
         Cut::Statement { line } => {
-            perform(alloc, keep, machine, window.text(), line, passed, out, err)
+            perform(
+                alloc,
+                plan.keep,
+                machine,
+                window.text(),
+                line,
+                passed,
+                out,
+                err,
+            )
         }
         Cut::More => read_more(window, passed, source),
         Cut::End => Turn::Stops(passed.end()),
@@ -150,7 +182,7 @@ fn perform<W: Sink, E: Sink>(
 ) -> Turn
     requires { passed.count < SCRIPT_LIMIT }
     ensures acts { (written : Record) × Wrote (record { on_out = W.taken out.old; on_err = E.taken err.old }) (record { on_out = W.taken out.new; on_err = E.taken err.new }) written
-        × Acts keep text.now line passed (state_of machine.old).variables (state_of machine.new).variables written result }
+        × Acts keep text.now line passed (state_of machine.old) (state_of machine.new) written result }
     ensures read_fault { result ≡ Turn.Stops Cause.ReadFault → ⊥ }
     ensures write_fault { result ≡ Turn.Stops Cause.WriteFault → Rose (W.faults out.old) (W.faults out.new) ⊎ Rose (E.faults err.old) (E.faults err.new) }
     ensures out_faults { W.faults out.old ≤ W.faults out.new }
@@ -183,7 +215,8 @@ fn execute<W: Sink>(
     text: &[u8],
     out: &mut W,
 ) -> Result<Flow, StepFault>
-    ensures executed { (gained : List ℕ) × (W.taken out.new ≡ append_known (W.taken out.old) gained) × Executed result text.now (state_of machine.old).variables (state_of machine.new).variables gained }
+    ensures executed { (gained : List ℕ) × (W.taken out.new ≡ append_known (W.taken out.old) gained) × Executed result text.now (state_of machine.old) (state_of machine.new) gained }
+    ensures budget { (state_of machine.new).budget ≡ (state_of machine.old).budget }
     ensures cause { HasCauseAt StepFault.Write (W.faults out.old) (W.faults out.new) result }
     ensures sure { W.sure out.new ≡ W.sure out.old }
 {

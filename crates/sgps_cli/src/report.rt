@@ -1,4 +1,4 @@
-//! The last line of a run.
+//! The last lines of a run.
 
 ghost use Rattle.std.specs.Prelude.{◌≡◌, ◌≤◌, ◌++◌, ℕ, List, OnOk, decimal, codes};
 ghost use Rattle.std.specs.Io.KnownBytes.{append_known};
@@ -6,23 +6,70 @@ ghost use Rattle.sg_io.specs.Faults.{AppendsFront, HasCauseAt};
 ghost use Rattle.sgps_cli.specs.Causes.{last_line};
 ghost use Rattle.sg_play.specs.FaultLines.{fault_line, name_of};
 ghost use Rattle.sgps_cli.specs.Reports.{IsReport};
+ghost use Rattle.sgps_cli.specs.Statistics.{counts_line, counts_lines, lines_with};
 
+use crate::ended::Ended;
 use crate::ending::{Cause, fault_name};
 use itoa::Buffer;
 use sg_calls::Fault;
 use sg_io::{Sink, SinkFault, write_whole};
+use sg_store::Counts;
 
-/// Writes the line of a cause, if it has one, and says how the run ends: as it did, or as the line could not be written.
-pub fn report<E: Sink>(err: &mut E, cause: Cause) -> Cause
-    ensures said { (said : List ℕ) × (E.taken err.new ≡ append_known (E.taken err.old) said) × IsReport cause said (E.faults err.old) (E.faults err.new) result }
+/// Writes the line of a cause, if it has one, and the counts, where they are told, and says how the run ends: as it did, or
+/// as the lines could not be written.
+pub fn report<E: Sink>(err: &mut E, ended: Ended) -> Cause
+    ensures said { (said : List ℕ) × (E.taken err.new ≡ append_known (E.taken err.old) said) × IsReport ended said (E.faults err.old) (E.faults err.new) result }
     ensures later { E.faults err.old ≤ E.faults err.new }
     ensures sure { E.sure err.new ≡ E.sure err.old }
 {
-    match write_line(err, cause) {
-        Ok(()) => cause,
+    match write_lines(err, ended) {
+        Ok(()) => ended.cause,
         Err(SinkFault::Failed) => Cause::WriteFault,
         Err(SinkFault::Memory) => Cause::Memory,
     }
+}
+
+/// Writes the last lines of a run.
+fn write_lines<E: Sink>(err: &mut E, ended: Ended) -> Result<(), SinkFault>
+    ensures all { OnOk result (E.taken err.new ≡ append_known (E.taken err.old) (lines_with ended.cause ended.counts)) }
+    ensures front { AppendsFront (E.taken err.old) (E.taken err.new) (lines_with ended.cause ended.counts) }
+    ensures cause { HasCauseAt SinkFault.Failed (E.faults err.old) (E.faults err.new) result }
+    ensures sure { E.sure err.new ≡ E.sure err.old }
+{
+    match ended.counts {
+        None => write_line(err, ended.cause),
+        Some(counts) => {
+            write_line(err, ended.cause)?;
+            write_counts(err, counts)
+        }
+    }
+}
+
+/// Writes the lines of the counts. Nothing asks for presentations yet.
+fn write_counts<E: Sink>(err: &mut E, counts: Counts) -> Result<(), SinkFault>
+    ensures all { OnOk result (E.taken err.new ≡ append_known (E.taken err.old) (counts_lines counts.tables_asked counts.tables_made counts.pseudo_asked counts.pseudo_made)) }
+    ensures front { AppendsFront (E.taken err.old) (E.taken err.new) (counts_lines counts.tables_asked counts.tables_made counts.pseudo_asked counts.pseudo_made) }
+    ensures cause { HasCauseAt SinkFault.Failed (E.faults err.old) (E.faults err.new) result }
+    ensures sure { E.sure err.new ≡ E.sure err.old }
+{
+    write_count(err, b"table", counts.tables_asked, counts.tables_made)?;
+    write_count(err, b"pseudo", counts.pseudo_asked, counts.pseudo_made)?;
+    write_count(err, b"presentation", 0, 0)
+}
+
+/// Writes how often an attribute was asked for and made.
+fn write_count<E: Sink>(err: &mut E, name: &[u8], asked: u64, made: u64) -> Result<(), SinkFault>
+    ensures all { OnOk result (E.taken err.new ≡ append_known (E.taken err.old) (counts_line name.now asked made)) }
+    ensures front { AppendsFront (E.taken err.old) (E.taken err.new) (counts_line name.now asked made) }
+    ensures cause { HasCauseAt SinkFault.Failed (E.faults err.old) (E.faults err.new) result }
+    ensures sure { E.sure err.new ≡ E.sure err.old }
+{
+    write_whole(err, name)?;
+    write_whole(err, b" asked ")?;
+    write_number(err, asked)?;
+    write_whole(err, b" made ")?;
+    write_number(err, made)?;
+    write_whole(err, b"\n")
 }
 
 /// Writes the line of a cause.

@@ -1,6 +1,6 @@
 //! The input that the words name is begun and played.
 
-ghost use Rattle.std.specs.Prelude.{◌≡◌, ◌≤◌, ◌⊎◌, ◌&&◌, not, ℕ, List, true, false, None, Some, is_some, length, map, string_bytes};
+ghost use Rattle.std.specs.Prelude.{◌≡◌, ◌≤◌, ◌⊎◌, ℕ, List, true, false, None, Some, length, map, string_bytes};
 ghost use Rattle.sg_io.specs.Faults.{Rose};
 ghost use Rattle.sg_io.specs.Inputs.{missing_after};
 ghost use Rattle.sg_words.specs.Asked.{wanted_of};
@@ -9,10 +9,12 @@ ghost use Rattle.sg_cut.specs.declared.limits.TheConstants.{SCRIPT_LIMIT};
 ghost use Rattle.sg_play.specs.Record.{Record};
 ghost use Rattle.sgps_cli.specs.Ends.{IsClosed};
 ghost use Rattle.sgps_cli.specs.Input.{HasInput, IsTaken};
-ghost use Rattle.sgps_cli.specs.Settled.{keep_of};
+ghost use Rattle.sgps_cli.specs.Settled.{plan_of};
 ghost use Rattle.sgps_cli.specs.Written.{Sinks, Wrote};
 
+use crate::ended::{Ended, told};
 use crate::ending::Cause;
+use crate::plan::Plan;
 use crate::play::play;
 use sg_io::{Sink, Source};
 use sg_words::{Settings, WordsFault, read_words};
@@ -25,13 +27,13 @@ pub fn settle<S: Source, W: Sink, E: Sink>(
     source: &mut S,
     out: &mut W,
     err: &mut E,
-) -> Cause
+) -> Ended
     requires { S.begun source.old ≡ false }
     ensures ends { (written : Record) × Wrote (record { on_out = W.taken out.old; on_err = E.taken err.old }) (record { on_out = W.taken out.new; on_err = E.taken err.new }) written
         × IsClosed result
         (record { settings = settings_of (map string_bytes words.now); inputs = S.inputs source.old; begun = S.begun source.new; left = S.left source.new; faults_before = S.faults source.old; faults_after = S.faults source.new })
         written }
-    ensures write_fault { result ≡ Cause.WriteFault → Rose (W.faults out.old) (W.faults out.new) ⊎ Rose (E.faults err.old) (E.faults err.new) }
+    ensures write_fault { result.cause ≡ Cause.WriteFault → Rose (W.faults out.old) (W.faults out.new) ⊎ Rose (E.faults err.old) (E.faults err.new) }
     ensures untouched { settings_of (map string_bytes words.now) ≡ None → source.new ≡ source.old }
     ensures taken { S.begun source.new ≡ true
         → (wanted : Wanted) × (settings_of (map string_bytes words.now) ≡ Some wanted)
@@ -47,8 +49,8 @@ pub fn settle<S: Source, W: Sink, E: Sink>(
 {
     match read_words(alloc, words) {
         Ok(settings) => play_input(alloc, settings, source, out, err),
-        Err(WordsFault::Usage) => Cause::Usage,
-        Err(WordsFault::Memory) => Cause::Memory,
+        Err(WordsFault::Usage) => Ended::bare(Cause::Usage),
+        Err(WordsFault::Memory) => Ended::bare(Cause::Memory),
     }
 }
 
@@ -59,11 +61,11 @@ fn play_input<S: Source, W: Sink, E: Sink>(
     source: &mut S,
     out: &mut W,
     err: &mut E,
-) -> Cause
+) -> Ended
     requires { S.begun source.old ≡ false }
     ensures ends { (written : Record) × Wrote (record { on_out = W.taken out.old; on_err = E.taken err.old }) (record { on_out = W.taken out.new; on_err = E.taken err.new }) written
         × IsClosed result (record { settings = Some (wanted_of settings.entry); inputs = S.inputs source.old; begun = S.begun source.new; left = S.left source.new; faults_before = S.faults source.old; faults_after = S.faults source.new }) written }
-    ensures write_fault { result ≡ Cause.WriteFault → Rose (W.faults out.old) (W.faults out.new) ⊎ Rose (E.faults err.old) (E.faults err.new) }
+    ensures write_fault { result.cause ≡ Cause.WriteFault → Rose (W.faults out.old) (W.faults out.new) ⊎ Rose (E.faults err.old) (E.faults err.new) }
     ensures taken { S.begun source.new ≡ true
         → (bytes : List ℕ) × IsTaken (S.inputs source.old) (wanted_of settings.entry).file (S.left source.new) bytes × (length bytes ≤ SCRIPT_LIMIT) }
     ensures missing { S.missing source.new ≡ missing_after (S.inputs source.old) (wanted_of settings.entry).file (S.missing source.old) }
@@ -76,14 +78,19 @@ fn play_input<S: Source, W: Sink, E: Sink>(
     ensures err_sure { E.sure err.new ≡ E.sure err.old }
 {
     if source.begin(settings.file).is_err() {
-        return Cause::ReadFault;
+        return Ended::bare(Cause::ReadFault);
     }
-    play(alloc, keep_of(&settings), source, out, err)
+    let finish = play(alloc, plan_of(&settings), source, out, err);
+    told(finish, settings.stats)
 }
 
-/// Whether the run goes on behind refused statements.
-fn keep_of(settings: &Settings<'_>) -> bool
-    ensures { result ≡ keep_of (wanted_of settings.now) }
+/// How the script is played: with a drill no refused statement is passed.
+fn plan_of(settings: &Settings<'_>) -> Plan
+    ensures { result ≡ plan_of (wanted_of settings.now) }
 {
-    settings.keep_going && settings.drill.is_none()
+    Plan {
+        budget: settings.budget,
+        capacity: settings.cache as usize,
+        keep: settings.keep_going && settings.drill.is_none(),
+    }
 }

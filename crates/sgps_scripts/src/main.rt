@@ -1,9 +1,10 @@
 //! Runs the scripts of a table, which stands on standard input, and tells those that end otherwise than their row has it.
 //!
 //! Rows are parted by an empty line. A row as it stands is a script. Its comments `#> ` have what it prints, and its
-//! comment `#! ` the line that it writes to standard error. To the byte: printed are the texts behind `#> `, joined by
+//! comments `#! ` the lines that it writes to standard error. To the byte: printed are the texts behind `#> `, joined by
 //! line feeds, so that a text which ends in a line feed has a last line `#>` with nothing behind. The status is 1
-//! where there is a line `#! `, and else 0. A row that is one line `# ` is a heading, and is not run.
+//! where the first line behind `#! ` is that of a fault, and else 0. A comment `#$ ` has the words of the command, parted
+//! by blanks. A row that is one line `# ` is a heading, and is not run.
 //!
 //! Each script is read in pieces of 1 byte and in pieces of 4,096 bytes.
 #![tactic(auto)]
@@ -68,7 +69,7 @@ fn ends_as_told(rt: &(impl AllocGlobal + Print), line: usize, row: &str) -> io::
 fn told(alloc: Global, row: &str) -> Result<Outcome, AllocError> {
     let out = behind(alloc, row, "#>")?;
     let mut err = behind(alloc, row, "#!")?;
-    let status = u8::from(!err.is_empty());
+    let status = u8::from(err.starts_with(b"sgps: "));
     if !err.is_empty() {
         err.push(b'\n')?;
     }
@@ -91,6 +92,19 @@ fn behind(alloc: Global, row: &str, mark: &str) -> Result<Vec<u8>, AllocError> {
     Ok(texts)
 }
 
+/// The words with which the script of a row is run.
+fn words_of(alloc: Global, row: &str) -> Result<Vec<String>, AllocError> {
+    let mut words = Vec::new(alloc);
+    for line in row.lines() {
+        if let Some(text) = line.strip_prefix("#$ ") {
+            for word in text.split(' ') {
+                words.push(String::from_str(alloc, word)?)?;
+            }
+        }
+    }
+    Ok(words)
+}
+
 /// How the script ends that is read in pieces of this size.
 fn ended(alloc: Global, script: &str, piece: usize) -> Result<Outcome, AllocError>
     requires { 0 < piece }
@@ -98,7 +112,8 @@ fn ended(alloc: Global, script: &str, piece: usize) -> Result<Outcome, AllocErro
     let mut source = MemSource::new(alloc, script.as_bytes(), piece, &[])?;
     let mut out = MemSink::new(alloc, &[])?;
     let mut err = MemSink::new(alloc, &[])?;
-    let ending = run(alloc, &[], &mut source, &mut out, &mut err);
+    let words = words_of(alloc, script)?;
+    let ending = run(alloc, &words, &mut source, &mut out, &mut err);
     Ok(Outcome {
         out: out.bytes().to_vec(alloc)?,
         err: err.bytes().to_vec(alloc)?,

@@ -1,7 +1,7 @@
 use Rattle.std.proofs.Common.{◌≡◌, ◌+◌, ◌<◌, ◌≤◌, ◌∷◌, ◌++◌, [], ℕ, get_or, length, sym, ap, subst, ◌∙◌, arith}
 use Rattle.std.specs.Prelude.{◌↔◌, Contains}
 use Rattle.std.proofs.lemmas.Bool.{false≢true}
-use Rattle.sg_betti.proofs.ElementLemmas.{IsOldOrSum, one-from_none, some-left, sum-vertex, sums-none, sums-passed, sums-taken, two-from_left}
+use Rattle.sg_betti.proofs.ElementLemmas.{IsOldOrSum, one-from_none, some-left, sum-vertex, sums-none, sums-passed, sums-taken, sums-whole, two-from_left}
 use Rattle.sg_betti.proofs.elements.add_sums.Goals as goal
 use Rattle.sg_betti.proofs.elements.add_sums.Goals.{then-not-reached_all+in_ok-push, else-not-reached_all}
 
@@ -11,14 +11,14 @@ loop-place-init c = sums-none c.args.found.now.items c.args.t.now c.args.rest
 pub overflow_add-n : goal.overflow_add-n
 overflow_add-n c =
     let place = c.loop-place.place in
-    let inside : place < length c.args.t.now = subst (λ l. place < length l) c.requires.same c.loop-place-test.true in
+    let inside : place < length c.args.t.now = omega (arith, c.end_place-end.ensures.inside, c.loop-place-test.true) in
     omega (arith, c.requires.small place inside, ap (λ l. get_or l place 0) c.requires.same)
 
 pub run-requires : goal.run-requires
 run-requires c =
     let place = c.loop-place.place in
     let gens = c.args.generators.now in
-    let inside : place < length c.args.t.now = subst (λ l. place < length l) c.requires.same c.loop-place-test.true in
+    let inside : place < length c.args.t.now = omega (arith, c.end_place-end.ensures.inside, c.loop-place-test.true) in
     sum-vertex c.args.t.now c.args.rest place (c.args.rest + get_or gens place 0) inside c.requires.member (ap (λ l. c.args.rest + get_or l place 0) c.requires.same)
 
 pub loop-place-preserved : goal.loop-place-preserved
@@ -28,7 +28,7 @@ loop-place-preserved c =
     let place = c.loop-place.place in
     let n = rest + get_or c.args.generators.now place 0 in
     let is : n ≡ rest + get_or G place 0 = ap (λ l. rest + get_or l place 0) c.requires.same in
-    let inside : place < length G = subst (λ l. place < length l) c.requires.same c.loop-place-test.true in
+    let inside : place < length G = omega (arith, c.end_place-end.ensures.inside, c.loop-place-test.true) in
     let later : 0 < place = omega (arith, c.loop-place.auto.place) in
     let some : 1 ≤ get_or G place 0 = c.requires.semigroup.positive place 0 inside in
     let above : 0 < n = omega (arith, is, some) in
@@ -53,7 +53,9 @@ loop-place-preserved c =
 pub returns : goal.returns
 returns c =
     let G = c.args.t.now in
-    let same : length c.args.generators.now ≡ length G = ap length c.requires.same in
-    let some : 0 < length G = c.requires.semigroup.not_empty in
-    let e : c.loop-place.place ≡ length G = omega (arith, same, some, c.loop-place-test.false, c.loop-place.auto.place-end) in
-    subst (λ k. (m : ℕ) → Contains c.loop-place.found.items m ↔ IsOldOrSum (Contains c.args.found.now.items) G c.args.rest k m) e c.loop-place.invariant
+    let rest = c.args.rest in
+    let E = c.end_place-end.ensures in
+    let end = c.end_place-end.result in
+    let e : c.loop-place.place ≡ end = omega (arith, E.some, c.loop-place-test.false, c.loop-place.auto.place-end) in
+    let all = subst (λ k. (m : ℕ) → Contains c.loop-place.found.items m ↔ IsOldOrSum (Contains c.args.found.now.items) G rest k m) e c.loop-place.invariant in
+    λ m. sums-whole (Contains c.args.found.now.items) G rest end m E.inside E.exactly (Contains c.loop-place.found.items m) (all m)

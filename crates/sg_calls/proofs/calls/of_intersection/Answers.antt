@@ -12,7 +12,7 @@ use Rattle.sg_calls.proofs.calls.of_intersection.Goals as goal
 
 pub returns-in-Some-clause-reply : goal.returns-in-Some-clause-reply
 returns-in-Some-clause-reply c =
-    let names = named c.args.store.now in
+    let names = named c.args.store.now.ids in
     let args = c.args.args.now in
     let a = c.index-args-0.result in
     let b = c.index-args-1.result in
@@ -22,4 +22,4 @@ returns-in-Some-clause-reply c =
     let seen = found_some (both ≡ None) (λ p. both ≡ Some (p.0.value, p.1.value)) c.in_ok-one.field-0 c.in_ok-one.ensures.both (c.in-Some.one, c.in-Some.other) c.in-Some.is in
     let found = sym (two_at names two_semigroups args a b c.requires.count c.index-args-0.is c.index-args-1.is) ∙ seen in
     let tells = pair_told intersection_row c.intersection.result c.deref.result.now c.deref-in-Some.result.now G H c.intersection.ensures c.deref.ensures c.deref-in-Some.ensures in
-    first_told (two two_semigroups (plain_of_all names args)) (λ p. intersection_row p.0 p.1) c.deliver.new.store (G, H) c.intersection.result c.deliver.result (ideals.case_of (OfTwoIdeals pair.Intersection) (plain_of_all names args)) found c.deliver.ensures.delivered tells
+    first_told (two two_semigroups (plain_of_all names args)) _ (λ p. intersection_row p.0 p.1) c.deliver.new.ids (G, H) c.intersection.result c.deliver.result (ideals.case_of (OfTwoIdeals pair.Intersection) (plain_of_all names args)) found c.deliver.ensures.delivered tells

@@ -13,12 +13,12 @@ use Rattle.sg_calls.proofs.families.of_modular.Goals as goal
 
 pub returns-then-args-ne2-clause-reply : goal.returns-then-args-ne2-clause-reply
 returns-then-args-ne2-clause-reply c =
-    let names = named c.args.store.now in
-    unfitted (two two_integers (plain_of_all names c.args.args.now)) (λ p. modular_row p.0 p.1) c.args.store.now (two_plain-none names two_integers c.args.args.now c.if-args-ne2.true)
+    let names = named c.args.ids.now in
+    unfitted (two two_integers (plain_of_all names c.args.args.now)) _ (λ p. modular_row p.0 p.1) c.args.ids.now (two_plain-none names two_integers c.args.args.now c.if-args-ne2.true)
 
 pub returns-clause-reply : goal.returns-clause-reply
 returns-clause-reply c =
-    let names = named c.args.store.now in
+    let names = named c.args.ids.now in
     let args = c.args.args.now in
     let a = c.index-args-0.result in
     let b = c.index-args-1.result in
@@ -28,5 +28,5 @@ returns-clause-reply c =
     let also : FitsSigned w64 y = search rules in
     let seen = two_integers-plain (thing_at names) (contents a) (contents b) ∙ sym c.in-Some.ensures in
     let found = sym (two_at names two_integers args a b c.if-args-ne2.false c.index-args-0.is c.index-args-1.is) ∙ seen in
-    fitted_told (two two_integers (plain_of_all names args)) (λ p. modular_row p.0 p.1) c.deliver.new.store (x, y) c.modular.result c.deliver.result found c.deliver.ensures.delivered
+    fitted_told (two two_integers (plain_of_all names args)) _ (λ p. modular_row p.0 p.1) c.deliver.new.ids (x, y) c.modular.result c.deliver.result found c.deliver.ensures.delivered
     (of_bits (λ u v. Tells c.modular.result (modular_row u v)) x y fit also c.modular.ensures)

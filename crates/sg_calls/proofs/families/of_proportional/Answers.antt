@@ -14,7 +14,7 @@ use Rattle.sg_calls.proofs.families.of_proportional.Goals as goal
 
 pub returns-clause-reply : goal.returns-clause-reply
 returns-clause-reply c =
-    let names = named c.args.store.now in
+    let names = named c.args.ids.now in
     let args = c.args.args.now in
     let r = c.proportional.result in
     let x = c.in-Some.a in
@@ -25,4 +25,4 @@ returns-clause-reply c =
     let fit_z : FitsSigned w64 z = search rules in
     let found = three_integers-plain (thing_at names) (contents_of_all args) ∙ sym c.in-Some.ensures in
     let tells = of_bits_right (λ w. Tells r (proportional_row x y w)) z fit_z (of_bits (λ u v. Tells r (proportional_row u v (to_z w64 (of_z w64 z)))) x y fit_x fit_y c.proportional.ensures) in
-    fitted_told (three three_integers (plain_of_all names args)) (λ p. proportional_row p.0 p.1.0 p.1.1) c.deliver.new.store (x, (y, z)) r c.deliver.result found c.deliver.ensures.delivered tells
+    fitted_told (three three_integers (plain_of_all names args)) _ (λ p. proportional_row p.0 p.1.0 p.1.1) c.deliver.new.ids (x, (y, z)) r c.deliver.result found c.deliver.ensures.delivered tells

@@ -9,16 +9,16 @@ use Rattle.sg_calls.proofs.forms.of_list.Goals as goal
 
 pub returns-in_default-clause-reply : goal.returns-in_default-clause-reply
 returns-in_default-clause-reply g c =
-    let names = named c.args.store.now in
+    let names = named c.args.ids.now in
     let args = c.args.args.now in
     let none : one as_integers (plain_of_all names args) ≡ None = one_integers-plain (thing_at names) (contents_of_all args) ∙ (sym c.in_ok-integers.ensures ∙ c.in_default.is) in
-    unfitted (one as_integers (plain_of_all names args)) (g.R.OfIntegers.says c.args.row) c.args.store.now none
+    unfitted (one as_integers (plain_of_all names args)) _ (g.R.OfIntegers.says c.args.row) c.args.ids.now none
 
 pub returns-clause-reply : goal.returns-clause-reply
 returns-clause-reply g c =
-    let names = named c.args.store.now in
+    let names = named c.args.ids.now in
     let args = c.args.args.now in
     let zs = c.in-Some.integers in
     let row = g.R.OfIntegers.says c.args.row in
     let found : one as_integers (plain_of_all names args) ≡ Some zs = one_integers-plain (thing_at names) (contents_of_all args) ∙ (sym c.in_ok-integers.ensures ∙ c.in-Some.is) in
-    fitted_told (one as_integers (plain_of_all names args)) row c.deliver.new.store zs c.tell.result c.deliver.result found c.deliver.ensures.delivered (subst (λ xs. Tells c.tell.result (row xs)) c.as_slice.ensures c.tell.ensures)
+    fitted_told (one as_integers (plain_of_all names args)) _ row c.deliver.new.ids zs c.tell.result c.deliver.result found c.deliver.ensures.delivered (subst (λ xs. Tells c.tell.result (row xs)) c.as_slice.ensures c.tell.ensures)

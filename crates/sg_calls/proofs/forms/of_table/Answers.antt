@@ -8,7 +8,7 @@ use Rattle.sg_calls.proofs.forms.of_table.Goals as goal
 
 pub returns-clause-reply : goal.returns-clause-reply
 returns-clause-reply g c =
-    let sole = one as_semigroup (plain_of_all (named c.args.store.now) c.args.args.now) in
+    let sole = one as_semigroup (plain_of_all (named c.args.store.now.ids) c.args.args.now) in
     let row = g.R.OfTable.says c.args.row in
     let found = found_some (sole ≡ None) (λ table. sole ≡ Some table.value) c.in_ok-table.field-0 c.in_ok-table.ensures.table c.in-Some.table c.in-Some.is in
-    fitted_told sole row c.deliver.new.store c.in-Some.table.value c.tell.result c.deliver.result found c.deliver.ensures.delivered (subst (λ G. Tells c.tell.result (row G)) c.deref.ensures c.tell.ensures)
+    fitted_told sole _ row c.deliver.new.ids c.in-Some.table.value c.tell.result c.deliver.result found c.deliver.ensures.delivered (subst (λ G. Tells c.tell.result (row G)) c.deref.ensures c.tell.ensures)

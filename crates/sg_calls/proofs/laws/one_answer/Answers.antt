@@ -1,5 +1,5 @@
-use Rattle.sg_calls.proofs.OneReply.{commands_one, operators_one, sign_one}
+use Rattle.sg_calls.proofs.OneReply.{commands_one, combines_one, sign_one}
 use Rattle.sg_calls.proofs.laws.one_answer.Goals as goal
 
 pub returns : goal.returns
-returns c = record { commands = commands_one; operators = operators_one; sign = sign_one }
+returns c = record { commands = commands_one; operators = combines_one; sign = sign_one }

@@ -6,4 +6,4 @@ use Rattle.sg_calls.proofs.membership.is_among.Given as goal
 
 -- it stands here or later, or nowhere
 abbrev pub invariant-loop-entry : goal.invariant-loop-entry
-invariant-loop-entry l = IsEntry (plain (named l.store) l.v) (plain_of_all (named l.store) (drop l.entry-index l.entries)) ↔ IsEntry (plain (named l.store) l.v) (plain_of_all (named l.store) l.entries)
+invariant-loop-entry l = IsEntry (plain (named l.ids) l.v) (plain_of_all (named l.ids) (drop l.entry-index l.entries)) ↔ IsEntry (plain (named l.ids) l.v) (plain_of_all (named l.ids) l.entries)

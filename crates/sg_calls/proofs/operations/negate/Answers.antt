@@ -15,5 +15,5 @@ pub returns : goal.returns
 returns c = λ store.
     let x = c.in-Some.x in
     let seen = as_integer-plain (thing_at (named store)) (contents c.args.a.now) ∙ sym c.in-Some.ensures in
-    fitted_by (as_integer (plain (named store) c.args.a.now)) (λ z. answers (λ d. d ≡ int (pos 0 -ℤ z))) store x c.integer.result seen
+    fitted_by (as_integer (plain (named store) c.args.a.now)) _ (λ z. answers (λ d. d ≡ int (pos 0 -ℤ z))) store x c.integer.result seen
     (c.integer.ensures store (pos 0 -ℤ x) (of_bits_right (λ z. SomeIff c.checked_sub.result (FitsSigned w64 (pos 0 -ℤ z)) (pos 0 -ℤ z)) x (search rules) c.checked_sub.ensures))

@@ -4,7 +4,7 @@ use Rattle.sg_value.specs.Data.{list}
 use Rattle.sg_value.specs.Plain.{AllKnown, AllKnownIn, plain, plain_of_all}
 use Rattle.sg_value.specs.declared.value.Value.{Value}
 use Rattle.sg_value.specs.declared.value.Value.TheVariants as value
-use Rattle.sg_rows.specs.Order.{IsReply, fits}
+use Rattle.sg_rows.specs.Order.{IsReplyOf}
 use Rattle.sg_rows.specs.Values.{answers}
 use Rattle.sg_rows.specs.Replies.{Replies}
 use Rattle.sg_rows.specs.declared.fault.CallFault.{CallFault}
@@ -14,15 +14,15 @@ use Rattle.sg_meaning.specs.Expressions.{ask}
 use Rattle.sg_eval.specs.Outcomes.{Evaluates}
 use Rattle.sg_eval.specs.State.{State}
 use Rattle.sg_meaning.specs.Queries.{lists}
-use Rattle.sg_eval.proofs.Evaluating.{evaluates_reply, keeps_all, plain_of_all_later}
+use Rattle.sg_eval.proofs.Evaluating.{evaluates_told, plain_of_all_later}
 use Rattle.sg_eval.proofs.Measured.{listing, too_deep, too_heavy, within_limits}
 use Rattle.sg_eval.proofs.answers.list_of.Goals as goal
 
 -- a list that was asked for
 listed_so : (r : Result Value CallFault) (vs : List Value) (s : State) → AllKnownIn (named s.names) vs → Replies r s.names (listing s.names vs) → Evaluates plain AllKnown r s s (λ names. ask (lists (plain_of_all names vs)))
 listed_so r vs s is_known h =
-    evaluates_reply r s s (listing s.names vs) (λ names. lists (plain_of_all names vs)) (keeps_all s.names) refl refl
-    (λ final later t g. subst (λ ds. IsReply (fits (answers (λ d. d ≡ list ds))) t) (sym (plain_of_all_later s.names final vs later is_known)) g) h
+    evaluates_told r s (listing s.names vs) (λ names. lists (plain_of_all names vs))
+    (λ final later t g. (subst (λ ds. IsReplyOf (answers (λ d. d ≡ list ds)) t) (sym (plain_of_all_later s.names final vs later is_known)) g, refl)) h
 
 pub returns-then-depth-gt-NESTING_LIMIT : goal.returns-then-depth-gt-NESTING_LIMIT
 returns-then-depth-gt-NESTING_LIMIT c = λ s is_known.

@@ -31,7 +31,7 @@ returns-in_err-set-clause-done c = λ taken.
     let s2 = state_of c.set.new.self in
     let h = c.in_ok-value.ensures in
     executed_memory (eval [] (tree_of c.args.e.now) >>= (λ d. sets c.args.name.now d (gives tt))) c.from_residual-in_err-set.result s s2 taken c.from_residual-in_err-set.ensures.1
-    (subst (Keeps s.names) (sym c.in_err-set.ensures.names) h.keeps) (c.in_err-set.ensures.err ∙ h.variables)
+    (subst (Keeps s.names) (sym c.in_err-set.ensures.store.names) h.keeps) (c.in_err-set.ensures.err ∙ h.variables) (c.in_err-set.ensures.store.budget ∙ h.budget)
 
 pub returns-clause-done : goal.returns-clause-done
 returns-clause-done c = λ taken.
@@ -44,14 +44,14 @@ returns-clause-done c = λ taken.
     let h = c.in_ok-value.ensures in
     let g = c.in_ok-set.ensures in
     executed_value plain AllKnown (eval [] t) (λ d. sets x d (gives tt)) v (Ok tt) s s1 s2 taken taken (at_top plain AllKnown (Ok v) s s1 (λ ps. eval ps t) c.requires h)
-    (executed_sets x (plain (named s1.names) v) (gives tt) (Ok tt) s1 s2 s2 taken taken g.names g.ok (executed_gives tt s2 taken (g.parameters ∙ (h.parameters ∙ c.requires))))
+    (executed_sets x (plain (named s1.names) v) (gives tt) (Ok tt) s1 s2 s2 taken taken g.store g.ok (executed_gives tt s2 taken (g.parameters ∙ (h.parameters ∙ c.requires))))
 
 pub returns-in_err-set_integer-clause-done : goal.returns-in_err-set_integer-clause-done
 returns-in_err-set_integer-clause-done c = λ taken.
     let s = state_of c.args.machine.now in
     let s2 = state_of c.set_integer.new.self in
     let g = c.in_err-set_integer.ensures in
-    executed_memory (eval [] (tree_of c.args.e.now) >>= (λ d. sets c.args.name.now d (gives tt))) c.from_residual.result s s2 taken c.from_residual.ensures.1 (subst (Keeps s.names) (sym g.names) (keeps_all s.names)) g.err
+    executed_memory (eval [] (tree_of c.args.e.now) >>= (λ d. sets c.args.name.now d (gives tt))) c.from_residual.result s s2 taken c.from_residual.ensures.1 (subst (Keeps s.names) (sym g.store.names) (keeps_all s.names)) g.err g.store.budget
 
 pub returns-in-Some-clause-done : goal.returns-in-Some-clause-done
 returns-in-Some-clause-done c = λ taken.
@@ -65,7 +65,7 @@ returns-in-Some-clause-done c = λ taken.
     let fit : FitsSigned w64 z = search rules in
     let change = g.ok ∙ (ap (λ y. with_value x (int y) s.variables) (to_z-of_z w64 z fit) ∙ ap (λ d. with_value x d s.variables) (sym (plain_integer s.names v z (contents-Int z)))) in
     executed_value plain AllKnown (eval [] t) (λ d. sets x d (gives tt)) v (Ok tt) s s s2 taken taken (at_top plain AllKnown (Ok v) s s (λ ps. eval ps t) c.requires c.in-Some.ensures)
-    (executed_sets x (plain (named s.names) v) (gives tt) (Ok tt) s s2 s2 taken taken g.names change (executed_gives tt s2 taken (g.parameters ∙ c.requires)))
+    (executed_sets x (plain (named s.names) v) (gives tt) (Ok tt) s s2 s2 taken taken g.store change (executed_gives tt s2 taken (g.parameters ∙ c.requires)))
 
 pub returns-in-Some-others_onto-clause-done : goal.returns-in-Some-others_onto-clause-done
 returns-in-Some-others_onto-clause-done c = λ taken.

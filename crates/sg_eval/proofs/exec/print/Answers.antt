@@ -26,7 +26,7 @@ returns-in_err-text-in-Some-clause-done g c =
     let s = state_of c.args.machine.now in
     let s1 = state_of c.given.new.machine in
     let h = c.in_ok-values.ensures.value in
-    executed_memory (eval_given [] (arguments_of c.args.args.now) >>= printed) c.from_residual-in_err-text-in-Some.result s s1 _ c.from_residual-in_err-text-in-Some.ensures.1 h.keeps h.variables
+    executed_memory (eval_given [] (arguments_of c.args.args.now) >>= printed) c.from_residual-in_err-text-in-Some.result s s1 _ c.from_residual-in_err-text-in-Some.ensures.1 h.keeps h.variables h.budget
 
 pub returns-in-None-clause-done : goal.returns-in-None-clause-done
 returns-in-None-clause-done g c =

@@ -37,7 +37,7 @@ returns-in_err-grow-in-Some-clause-done c = λ taken.
     let found = c.in_ok-check_named.ensures in
     let e = c.in_err-grow-in-Some.field-0.0 in
     let given = subst (λ w. Evaluates plain_where known_where (Ok w) s s1 (λ names. eval_given s.parameters others)) c.in-Some.is c.in_ok-lists.ensures.value in
-    growth_refused s x others taken c.requires found.0 found.1 s1 s2 lists given c.in_err-grow-in-Some.ensures.names c.from_residual-in_err-grow-in-Some.result e c.from_residual-in_err-grow-in-Some.ensures.1
+    growth_refused s x others taken c.requires found.0 found.1 s1 s2 lists given c.in_err-grow-in-Some.ensures.store c.from_residual-in_err-grow-in-Some.result e c.from_residual-in_err-grow-in-Some.ensures.1
     (subst (λ vs. Grows (Err e) s1 s2.variables x (λ names. joined_onto x (plain_of_all names vs))) c.deref.ensures.value c.in_err-grow-in-Some.ensures.grows)
 
 pub returns-in_ok-grow-in-Some-clause-done : goal.returns-in_ok-grow-in-Some-clause-done
@@ -51,5 +51,5 @@ returns-in_ok-grow-in-Some-clause-done c = λ taken.
     let found = c.in_ok-check_named.ensures in
     let h = c.in_ok-grow-in-Some.ensures in
     let given = subst (λ w. Evaluates plain_where known_where (Ok w) s s1 (λ names. eval_given s.parameters others)) c.in-Some.is c.in_ok-lists.ensures.value in
-    growth_done s x others taken c.requires found.0 found.1 s1 s2 lists given h.names h.parameters
+    growth_done s x others taken c.requires found.0 found.1 s1 s2 lists given h.store h.parameters
     (subst (λ vs. Grows (Ok tt) s1 s2.variables x (λ names. joined_onto x (plain_of_all names vs))) c.deref.ensures.value h.grows)

@@ -3,4 +3,4 @@ use Rattle.sg_meaning.proofs.OneEnd.{answer_one, end_one}
 use Rattle.sg_meaning.proofs.laws.one_outcome.Goals as goal
 
 pub returns : goal.returns
-returns c = record { answers = answer_one; statements = λ stmt. end_one (whole stmt) }
+returns c = record { answers = answer_one; statements = λ n stmt. end_one n (whole stmt) }

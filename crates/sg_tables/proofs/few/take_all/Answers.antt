@@ -1,14 +1,9 @@
-use Rattle.std.proofs.Common.{◌≡◌, ◌+◌, ◌++◌, ℕ, List, [], ◌∷◌, length, get_or, subst, sym, refl, ◌∙◌, arith, inl, inr}
+use Rattle.std.proofs.Common.{◌≡◌, ◌+◌, [], ◌∷◌, get_or, subst, sym, ◌∙◌, arith, inl, inr}
 use Rattle.std.proofs.lemmas.List.{length-set}
 use Rattle.sg_classes.proofs.GeneratorLemmas.{entry-positive, place-contains}
-use Rattle.sg_tables.proofs.FrontLemmas.{IsFront, front-first, front-generates, front-push, front-skip}
+use Rattle.sg_tables.proofs.FrontLemmas.{IsFront, front-first, front-generates, front-push, front-skip, pushed-empty}
 use Rattle.sg_tables.proofs.KnownLemmas.{known-table, table_of-first, table_of-same}
 use Rattle.sg_tables.proofs.few.take_all.Goals as goal
-
--- what is put at the end of an empty list
-pushed-empty : (l : List ℕ) (x : ℕ) → length l ≡ 0 → l ++ x ∷ [] ≡ x ∷ []
-pushed-empty [] x e = refl
-pushed-empty (y ∷ l) x e = absurd (omega (arith, e))
 
 pub loop-place-init : goal.loop-place-init
 loop-place-init c =

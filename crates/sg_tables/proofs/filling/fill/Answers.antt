@@ -2,22 +2,23 @@ use Rattle.std.proofs.Common.{◌≡◌, ◌<◌, length, sym, subst, ◌∙◌,
 use Rattle.std.proofs.lemmas.List.{length-set}
 use Rattle.sg_defs.specs.Membership.{IsMember}
 use Rattle.sg_defs.proofs.MembershipLemmas.{member-entry}
-use Rattle.sg_tables.proofs.SettledLemmas.{IsSound-first, IsTable-settled}
+use Rattle.sg_tables.proofs.ClosingLemmas.{settled-table}
+use Rattle.sg_tables.proofs.FoundLemmas.{found-listed}
 use Rattle.sg_tables.proofs.filling.fill.Goals as goal
 
 pub bounds-table-0 : goal.bounds-table-0
 bounds-table-0 c = omega (arith, c.requires.long, c.requires.semigroup.positive 0 0 c.requires.semigroup.not_empty)
 
-pub relax_fully-requires : goal.relax_fully-requires
-relax_fully-requires c =
-    let some : 0 < length c.args.table.now = omega (arith, c.requires.long, c.requires.semigroup.positive 0 0 c.requires.semigroup.not_empty) in
-    record {
-      sound = IsSound-first c.args.generators.now c.args.table.now some c.requires.short c.requires.small c.requires.unreached;
-    }
+pub lower_all-requires : goal.lower_all-requires
+lower_all-requires c = omega (arith, length-set c.args.table.now 0 0, c.requires.long, c.requires.semigroup.positive 0 0 c.requires.semigroup.not_empty)
 
-pub returns : goal.returns
-returns c =
-    let D = c.args.generators.now in
-    let same : length c.relax_fully.new.table ≡ length c.args.table.now = omega (arith, length-set c.args.table.now 0 0) in
-    IsTable-settled D c.relax_fully.new.table c.requires.semigroup
-    (subst (IsMember D) (sym (same ∙ c.requires.long)) (member-entry D 0 c.requires.semigroup.not_empty)) c.relax_fully.ensures.sound c.relax_fully.ensures.settled
+pub visit_from-requires-clause-found : goal.visit_from-requires-clause-found
+visit_from-requires-clause-found c =
+    let some : 0 < length c.args.table.now = omega (arith, c.requires.long, c.requires.semigroup.positive 0 0 c.requires.semigroup.not_empty) in
+    found-listed c.args.generators.now c.args.table.now c.lower_all.new.table c.args.summands.now some (omega (arith, c.requires.short))
+    (subst (IsMember c.args.generators.now) (sym c.requires.long) (member-entry c.args.generators.now 0 c.requires.semigroup.not_empty)) c.requires.summands c.requires.unmarked c.requires.unreached c.lower_all.ensures
+
+pub returns-clause-table : goal.returns-clause-table
+returns-clause-table c =
+    let same : length c.close.new.table ≡ length c.args.table.now = c.close.auto.table ∙ c.visit_from.auto.table ∙ c.lower_all.auto.table ∙ length-set c.args.table.now 0 0 in
+    settled-table c.args.generators.now c.close.new.table c.close.new.summands c.requires.semigroup c.in_ok-close.ensures.found c.in_ok-close.ensures.settled c.requires.small (omega (arith, same, c.requires.short))

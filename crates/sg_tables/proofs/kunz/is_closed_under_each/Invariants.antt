@@ -1,6 +1,6 @@
 use Rattle.std.proofs.Common.{ℕ, ◌<◌, slice_index}
 use Rattle.sg_tables.specs.Closed.{IsClosedUnder}
-use Rattle.sg_tables.specs.Relaxation.{IsSpread}
+use Rattle.sg_tables.specs.Spread.{IsSpread}
 use Rattle.sg_tables.proofs.kunz.is_closed_under_each.Given as goal
 
 abbrev pub invariant-loop-generator : goal.invariant-loop-generator

@@ -10,7 +10,7 @@ invariant-loop-now g l =
     let out = g.W.Sink in
     let err = g.E.Sink in
     record {
-      reached : IsReached (record { keep = l.fn.keep; all = source.left l.fn.source; sinks = record { on_out = out.taken l.fn.out; on_err = err.taken l.fn.err } }) l.window (state_of l.machine).variables l.passed (source.left l.source) (record { on_out = out.taken l.out; on_err = err.taken l.err });
+      reached : IsReached (record { plan = l.fn.plan; all = source.left l.fn.source; sinks = record { on_out = out.taken l.fn.out; on_err = err.taken l.fn.err } }) l.window (state_of l.machine) l.passed (source.left l.source) (record { on_out = out.taken l.out; on_err = err.taken l.err });
       begun : source.begun l.source ≡ true;
       source_later : source.faults l.fn.source ≤ source.faults l.source;
       out_later : out.faults l.fn.out ≤ out.faults l.out;

@@ -18,7 +18,7 @@ read_more-requires-clause-room g c =
 pub returns-in-Statement-clause-turns : goal.returns-in-Statement-clause-turns
 returns-in-Statement-clause-turns g c = λ b r.
     let p = c.perform.ensures.acts in
-    statement-turn r c.in-Statement.line c.next_statement.new.self (state_of c.perform.new.machine).variables p.0 _ c.perform.result c.text.result.now
+    statement-turn r c.in-Statement.line c.next_statement.new.self (state_of c.perform.new.machine) p.0 _ c.perform.result c.text.result.now
     (c.in-Statement.ensures.finds r.held r.feeds r.holds) c.in-Statement.ensures.taken c.in-Statement.ensures.ended c.text.ensures p.1 p.2
 
 pub returns-in-Statement-clause-shrinks : goal.returns-in-Statement-clause-shrinks

@@ -55,7 +55,7 @@ apply-returns t c =
     let bound = c.in_ok-bind.ensures.ok in
     evaluates_later plain AllKnown (Ok c.in_ok-value.value) s s3 (λ names. eval s1.parameters tree) (λ names. eval ((x, plain names v) ∷ s.parameters) tree)
     (λ final later. ap (λ ps. eval ps tree) (bound ∙ ap (λ d. (x, d) ∷ s.parameters) (copy_plain (named s.names) v w c.in_ok-copy.ensures ∙ sym (plain_later s.names final v later c.requires))))
-    (evaluates_bound plain AllKnown c.in_ok-value.value s s1 s2 s3 (λ names. eval s1.parameters tree) c.in_ok-bind.ensures.names c.in_ok-bind.ensures.variables h c.unbind.ensures.names c.unbind.ensures.variables
+    (evaluates_bound plain AllKnown c.in_ok-value.value s s1 s2 s3 (λ names. eval s1.parameters tree) c.in_ok-bind.ensures.store c.in_ok-bind.ensures.variables h c.unbind.ensures.store c.unbind.ensures.variables
     (c.unbind.ensures.parameters (x, plain (named s.names) w) s.parameters (h.parameters ∙ bound)))
 
 pub apply-returns-in_err-value : goal.apply-returns-in_err-value
@@ -71,7 +71,7 @@ apply-returns-in_err-value t c =
     let bound = c.in_ok-bind.ensures.ok in
     evaluates_later plain AllKnown r s s2 (λ names. eval s1.parameters tree) (λ names. eval ((x, plain names v) ∷ s.parameters) tree)
     (λ final later. ap (λ ps. eval ps tree) (bound ∙ ap (λ d. (x, d) ∷ s.parameters) (copy_plain (named s.names) v w c.in_ok-copy.ensures ∙ sym (plain_later s.names final v later c.requires))))
-    (evaluates_bound_exit plain AllKnown plain AllKnown r _ s s1 s2 (λ names. eval s1.parameters tree) c.in_ok-bind.ensures.names c.in_ok-bind.ensures.variables c.from_residual-in_err-value.ensures.1 c.in_err-value.ensures)
+    (evaluates_bound_exit plain AllKnown plain AllKnown r _ s s1 s2 (λ names. eval s1.parameters tree) c.in_ok-bind.ensures.store c.in_ok-bind.ensures.variables c.from_residual-in_err-value.ensures.1 c.in_err-value.ensures)
 
 pub fold_call-returns-then-args-ne2 : goal.fold_call-returns-then-args-ne2
 fold_call-returns-then-args-ne2 t c =
@@ -184,7 +184,7 @@ fold_call-returns-in_ok-entries-in-Arrow t c =
 
 pub folded-apply-requires : goal.folded-apply-requires
 folded-apply-requires t c =
-    (search rules, known_at (named c.loop-entry.machine.store) c.args.entries.now c.loop-entry.entry-index c.entry-item.result c.loop-entry-test.true c.entry-item.is c.loop-entry.invariant.entries)
+    (search rules, known_at (named c.loop-entry.machine.store.ids) c.args.entries.now c.loop-entry.entry-index c.entry-item.result c.loop-entry-test.true c.entry-item.is c.loop-entry.invariant.entries)
 
 pub folded-loop-entry-init : goal.folded-loop-entry-init
 folded-loop-entry-init t c =
@@ -257,7 +257,7 @@ folded-returns-in_err-gather t c =
     let s1 = state_of c.apply.new.machine in
     let h = c.in_ok-value.ensures in
     let r = c.from_residual-in_err-gather.result in
-    c.loop-entry.invariant.reached r s1 (evaluates_memory plain AllKnown r _ s s1 _ h.keeps h.variables c.from_residual-in_err-gather.ensures.1)
+    c.loop-entry.invariant.reached r s1 (evaluates_memory plain AllKnown r _ s s1 _ h.keeps h.variables h.budget c.from_residual-in_err-gather.ensures.1)
 
 pub folded-loop-entry-preserved : goal.folded-loop-entry-preserved
 folded-loop-entry-preserved t c =

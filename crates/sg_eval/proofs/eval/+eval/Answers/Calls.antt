@@ -134,7 +134,7 @@ given-returns-in_err-values-clause-value t c =
     let s1 = state_of c.argument.new.machine in
     let h = c.in_ok-found.ensures in
     let r = c.from_residual-in_err-values.result in
-    c.loop-arg.invariant.reached r s1 (evaluates_memory plain_where known_where r _ s s1 _ h.keeps h.variables c.from_residual-in_err-values.ensures.1)
+    c.loop-arg.invariant.reached r s1 (evaluates_memory plain_where known_where r _ s s1 _ h.keeps h.variables h.budget c.from_residual-in_err-values.ensures.1)
 
 pub given-loop-arg-preserved : goal.given-loop-arg-preserved
 given-loop-arg-preserved t c =

@@ -42,7 +42,7 @@ compared-returns-in_err-b t c =
     evaluates_exit plain AllKnown plain AllKnown c.from_residual.result _ s (state_of c.eval.new.machine) (λ names. eval s.parameters (tree_of c.args.right.now)) (λ names b. ask (combines c.args.op (plain names c.args.left.now) b)) c.from_residual.ensures.1 c.in_err-b.ensures
 
 pub compared-combine-requires-clause-left : goal.compared-combine-requires-clause-left
-compared-combine-requires-clause-left t c = known_later c.args.machine.now.store c.eval.new.machine.store c.args.left.now c.in_ok-b.ensures.keeps c.requires
+compared-combine-requires-clause-left t c = known_later c.args.machine.now.store.ids c.eval.new.machine.store.ids c.args.left.now c.in_ok-b.ensures.keeps c.requires
 
 pub compared-returns : goal.compared-returns
 compared-returns t c =

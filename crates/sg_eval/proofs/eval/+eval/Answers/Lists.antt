@@ -133,7 +133,7 @@ eval_all-returns-in_err-put t c =
     let s1 = state_of c.eval.new.machine in
     let e = c.in_ok-value.ensures in
     let r = c.from_residual-in_err-put.result in
-    c.loop-e.invariant.reached r s1 (evaluates_memory plain_in known_in r _ s s1 _ e.keeps e.variables c.from_residual-in_err-put.ensures.1)
+    c.loop-e.invariant.reached r s1 (evaluates_memory plain_in known_in r _ s s1 _ e.keeps e.variables e.budget c.from_residual-in_err-put.ensures.1)
 
 pub eval_all-loop-e-preserved : goal.eval_all-loop-e-preserved
 eval_all-loop-e-preserved t c =

@@ -33,7 +33,7 @@ repeat-loop-entry-init g t c = record { outside = c.requires.parameters; known =
 
 pub repeat-set-requires : goal.repeat-set-requires
 repeat-set-requires g t c =
-    let names = named c.loop-entry.machine.store in
+    let names = named c.loop-entry.machine.store.ids in
     record { known = copy_known names c.entry-item.result c.in_ok-try_clone.field-0 c.in_ok-try_clone.ensures (known_at names c.args.entries.now c.loop-entry.entry-index c.entry-item.result c.loop-entry-test.true c.entry-item.is c.loop-entry.invariant.known) }
 
 pub repeat-exec_all-requires : goal.repeat-exec_all-requires
@@ -44,7 +44,7 @@ repeat-returns-in_err-try_clone-clause-done g t c =
     let s = state_of c.loop-entry.machine in
     let o = g.W.Sink.taken c.loop-entry.out in
     let r = c.from_residual.result in
-    c.loop-entry.invariant.reached r s o (executed_memory _ r s s o c.from_residual.ensures.1 (keeps_all s.names) refl)
+    c.loop-entry.invariant.reached r s o (executed_memory _ r s s o c.from_residual.ensures.1 (keeps_all s.names) refl refl)
 
 pub repeat-returns-in_err-set-clause-done : goal.repeat-returns-in_err-set-clause-done
 repeat-returns-in_err-set-clause-done g t c =
@@ -52,7 +52,7 @@ repeat-returns-in_err-set-clause-done g t c =
     let s1 = state_of c.set.new.self in
     let o = g.W.Sink.taken c.loop-entry.out in
     let r = c.from_residual-in_err-set.result in
-    c.loop-entry.invariant.reached r s1 o (executed_memory _ r s s1 o c.from_residual-in_err-set.ensures.1 (subst (Keeps s.names) (sym c.in_err-set.ensures.names) (keeps_all s.names)) c.in_err-set.ensures.err)
+    c.loop-entry.invariant.reached r s1 o (executed_memory _ r s s1 o c.from_residual-in_err-set.ensures.1 (subst (Keeps s.names) (sym c.in_err-set.ensures.store.names) (keeps_all s.names)) c.in_err-set.ensures.err c.in_err-set.ensures.store.budget)
 
 pub repeat-returns-in_err-exec_all-clause-done : goal.repeat-returns-in_err-exec_all-clause-done
 repeat-returns-in_err-exec_all-clause-done g t c =
@@ -75,7 +75,7 @@ repeat-returns-in_err-exec_all-clause-done g t c =
     let change = c.in_ok-set.ensures.ok ∙ ap (λ k. with_value x k s.variables) (copy_plain names v w c.in_ok-try_clone.ensures) in
     c.loop-entry.invariant.reached r s2 o2 (subst (λ ds. Executed r s s2 o o2 (over (λ k. sets x k body) ds)) (sym (plain_of_all-drop names all i v c.loop-entry-test.true c.entry-item.is))
     (executed_in (sets x d body) (λ u. over (λ k. sets x k body) rest) r e s s2 o o2 c.from_residual-in_err-exec_all.ensures.1
-    (executed_sets x d body (Err e) s s1 s2 o o2 c.in_ok-set.ensures.names change c.in_err-exec_all.ensures.done)))
+    (executed_sets x d body (Err e) s s1 s2 o o2 c.in_ok-set.ensures.store change c.in_err-exec_all.ensures.done)))
 
 pub repeat-loop-entry-preserved : goal.repeat-loop-entry-preserved
 repeat-loop-entry-preserved g t c =
@@ -97,12 +97,12 @@ repeat-loop-entry-preserved g t c =
     let inv = c.loop-entry.invariant in
     let change = c.in_ok-set.ensures.ok ∙ ap (λ k. with_value x k s.variables) (copy_plain names v w c.in_ok-try_clone.ensures) in
     let did = c.in_ok-exec_all.ensures.done in
-    let kept = subst (λ a. Keeps a s2.names) c.in_ok-set.ensures.names did.keeps in
+    let kept = subst (λ a. Keeps a s2.names) c.in_ok-set.ensures.store.names did.keeps in
     record {
       outside = did.parameters;
       known = all_known_later s.names s2.names all kept inv.known;
       reached = λ r s3 o3 h. inv.reached r s3 o3 (subst (λ ds. Executed r s s3 o o3 (over (λ k. sets x k body) ds)) (sym (plain_of_all-drop names all i v c.loop-entry-test.true c.entry-item.is))
-          (executed_then (sets x d body) (λ u. over (λ k. sets x k body) rest) tt r s s2 s3 o o2 o3 (executed_sets x d body (Ok tt) s s1 s2 o o2 c.in_ok-set.ensures.names change did)
+          (executed_then (sets x d body) (λ u. over (λ k. sets x k body) rest) tt r s s2 s3 o o2 o3 (executed_sets x d body (Ok tt) s s1 s2 o o2 c.in_ok-set.ensures.store change did)
           (subst (λ ds. Executed r s2 s3 o2 o3 (over (λ k. sets x k body) ds)) (plain_of_all_later s.names s2.names left kept (known-drop names (i + 1) all inv.known)) h)));
       later = omega (arith, inv.later, c.in_ok-exec_all.ensures.cause.later);
       sure = c.in_ok-exec_all.ensures.sure ∙ inv.sure;
@@ -135,7 +135,7 @@ count_up-returns-in_err-set_integer-clause-done g t c =
     let o = g.W.Sink.taken c.loop-i.out in
     let r = c.from_residual.result in
     let h = c.in_err-set_integer.ensures in
-    c.loop-i.invariant.reached r s1 o (executed_memory _ r s s1 o c.from_residual.ensures.1 (subst (Keeps s.names) (sym h.names) (keeps_all s.names)) h.err)
+    c.loop-i.invariant.reached r s1 o (executed_memory _ r s s1 o c.from_residual.ensures.1 (subst (Keeps s.names) (sym h.store.names) (keeps_all s.names)) h.err h.store.budget)
 
 pub count_up-returns-in_err-exec_all-clause-done : goal.count_up-returns-in_err-exec_all-clause-done
 count_up-returns-in_err-exec_all-clause-done g t c =
@@ -155,7 +155,7 @@ count_up-returns-in_err-exec_all-clause-done g t c =
     let change : s1.variables ≡ with_value x (int z) s.variables = c.in_ok-set_integer.ensures.ok ∙ ap (λ y. with_value x (int y) s.variables) (counted_step c.args.range c.requires.range i c.loop-i-test.true) in
     c.loop-i.invariant.reached r s2 o2 (subst (λ ds. Executed r s s2 o o2 (over (λ k. sets x k body) ds)) (sym (integers_left c.args.range.first n i c.loop-i-test.true))
     (executed_in (sets x (int z) body) (λ u. over (λ k. sets x k body) rest) r e s s2 o o2 c.from_residual-in_err-exec_all.ensures.1
-    (executed_sets x (int z) body (Err e) s s1 s2 o o2 c.in_ok-set_integer.ensures.names change c.in_err-exec_all.ensures.done)))
+    (executed_sets x (int z) body (Err e) s s1 s2 o o2 c.in_ok-set_integer.ensures.store change c.in_err-exec_all.ensures.done)))
 
 pub count_up-loop-i-preserved : goal.count_up-loop-i-preserved
 count_up-loop-i-preserved g t c =
@@ -176,7 +176,7 @@ count_up-loop-i-preserved g t c =
     record {
       outside = did.parameters;
       reached = λ r s3 o3 h. inv.reached r s3 o3 (subst (λ ds. Executed r s s3 o o3 (over (λ k. sets x k body) ds)) (sym (integers_left c.args.range.first n i c.loop-i-test.true))
-          (executed_then (sets x (int z) body) (λ u. over (λ k. sets x k body) rest) tt r s s2 s3 o o2 o3 (executed_sets x (int z) body (Ok tt) s s1 s2 o o2 c.in_ok-set_integer.ensures.names change did) h));
+          (executed_then (sets x (int z) body) (λ u. over (λ k. sets x k body) rest) tt r s s2 s3 o o2 o3 (executed_sets x (int z) body (Ok tt) s s1 s2 o o2 c.in_ok-set_integer.ensures.store change did) h));
       later = omega (arith, inv.later, c.in_ok-exec_all.ensures.cause.later);
       sure = c.in_ok-exec_all.ensures.sure ∙ inv.sure;
     }

@@ -1,3 +1,4 @@
+use Rattle.std.proofs.Common.{refl}
 use Rattle.sg_value.specs.Known.{named}
 use Rattle.sg_value.specs.Plain.{plain_of_all}
 use Rattle.sg_calls.specs.Rows.{row}
@@ -13,16 +14,16 @@ pub invariant_of-self : goal.invariant_of-self
 invariant_of-self c =
     let kept = c.perform.ensures.keeps in
     let m = c.args.self.now in
-    record { known = (known_in_later m.store c.perform.new.store m.variables.entries kept m.known.0, are_known_later m.store c.perform.new.store m.parameters.items kept m.known.1) }
+    record { known = (known_in_later m.store.ids c.perform.new.store.ids m.variables.entries kept m.known.0, are_known_later m.store.ids c.perform.new.store.ids m.parameters.items kept m.known.1) }
 
 pub returns : goal.returns
 returns c =
     let kept = c.perform.ensures.keeps in
     let m = c.args.self.now in
-    let a = m.store in
-    let b = c.perform.new.store in
+    let a = m.store.ids in
+    let b = c.perform.new.store.ids in
     let args = c.args.args.now in
     let command = c.args.command in
-    evaluates_reply c.perform.result (state_of m) (record { names = b; variables = values_of b m.variables.entries; parameters = vars_of b m.parameters.items }) (row command (plain_of_all (named a) args)) (λ names. calls command (plain_of_all names args))
-    kept (values_later a b m.variables.entries kept m.known.0) (vars_later a b m.parameters.items kept m.known.1)
-    (λ final later t h. row_answered a final args command t (keeps_then a b final kept later) c.requires.known h) c.perform.ensures.reply
+    evaluates_reply c.perform.result (state_of m) (record (state_of m) { names = b; attributes = c.perform.new.store.attributes; variables = values_of b m.variables.entries; parameters = vars_of b m.parameters.items }) (row m.budget command (plain_of_all (named a) args)) (λ names. calls command (plain_of_all names args))
+    kept (values_later a b m.variables.entries kept m.known.0) refl (vars_later a b m.parameters.items kept m.known.1)
+    (λ final later t asked h w. row_answered m.budget a final args command t asked (keeps_then a b final kept later) c.requires.known h w) c.perform.ensures.asks c.perform.ensures.reply

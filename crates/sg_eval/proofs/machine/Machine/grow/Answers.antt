@@ -5,7 +5,7 @@ use Rattle.sg_eval.proofs.machine.Machine.grow.Goals as goal
 pub invariant_of-self : goal.invariant_of-self
 invariant_of-self c =
     let m = c.args.self.now in
-    record { known = (c.grow.ensures.known m.store m.known.0 c.requires.known, m.known.1) }
+    record { known = (c.grow.ensures.known m.store.ids m.known.0 c.requires.known, m.known.1) }
 
 pub returns-clause-grows : goal.returns-clause-grows
 returns-clause-grows c =

@@ -8,14 +8,14 @@ use Rattle.sg_eval.proofs.FoldLoop.{plain_of_all-drop, known_at}
 use Rattle.sg_eval.proofs.machine.Machine.texts.Goals as goal
 
 pub print_into-requires : goal.print_into-requires
-print_into-requires c = record { known = known_at (named c.args.self.now.store) c.args.values.now c.loop-value.value-index c.value-item.result c.loop-value-test.true c.value-item.is c.requires.known }
+print_into-requires c = record { known = known_at (named c.args.self.now.store.ids) c.args.values.now c.loop-value.value-index c.value-item.result c.loop-value-test.true c.value-item.is c.requires.known }
 
 pub loop-value-init : goal.loop-value-init
-loop-value-init c = ap (λ t. t ++ texts_of (plain_of_all (named c.args.self.now.store) c.args.values.now)) c.new-text.ensures
+loop-value-init c = ap (λ t. t ++ texts_of (plain_of_all (named c.args.self.now.store.ids) c.args.values.now)) c.new-text.ensures
 
 pub loop-value-preserved : goal.loop-value-preserved
 loop-value-preserved c =
-    let names = named c.args.self.now.store in
+    let names = named c.args.self.now.store.ids in
     let vs = c.args.values.now in
     let i = c.loop-value.value-index in
     let v = c.value-item.result in
@@ -26,5 +26,5 @@ loop-value-preserved c =
 
 pub returns : goal.returns
 returns c =
-    let names = named c.args.self.now.store in
+    let names = named c.args.self.now.store.ids in
     sym (append-nil c.loop-value.text) ∙ (ap (λ vs. c.loop-value.text ++ texts_of (plain_of_all names vs)) (sym (drop_all c.loop-value.value-index c.args.values.now c.loop-value-test.false)) ∙ c.loop-value.invariant)

@@ -1,0 +1,4 @@
+pub mod Bounds
+pub mod Telling
+pub mod OneCommand
+pub mod SomeCommand

@@ -1,0 +1,41 @@
+//! The attributes of a semigroup that are kept, as questions about its minimal generators.
+
+use sg_apery::Table;
+use sg_memo::Question;
+use sg_nat::Ints;
+
+/// The table.
+#[derive(Drop)]
+pub struct TableQ;
+
+impl Question for TableQ {
+    type Answer = Table;
+
+    ghost use Rattle.sg_lawful.specs.Lawful.{IsLawfulList};
+    ghost use Rattle.sg_store.specs.Attributes.{IsTableOf};
+    ghost use Rattle.sg_store.specs.OneAttribute.{one_table};
+
+    ghost askable = { IsLawfulList };
+
+    ghost is_answer = { IsTableOf };
+
+    ghost one_answer = { one_table };
+}
+
+/// The pseudo-Frobenius numbers, ascending.
+#[derive(Drop)]
+pub struct PseudoQ;
+
+impl Question for PseudoQ {
+    type Answer = Ints;
+
+    ghost use Rattle.sg_lawful.specs.Lawful.{IsLawfulList};
+    ghost use Rattle.sg_store.specs.Attributes.{AreNumbersOf};
+    ghost use Rattle.sg_store.specs.OneAttribute.{one_list_of_numbers};
+
+    ghost askable = { IsLawfulList };
+
+    ghost is_answer = { AreNumbersOf };
+
+    ghost one_answer = { one_list_of_numbers };
+}
