@@ -19,8 +19,10 @@ second false b e = absurd (true≢false (sym e))
 -- the value of a number lies in the limits
 number-within : (least most : ℕ) (text : Text) → is_number least most text ≡ true → (least ≤ digits_value 10 text) × (digits_value 10 text ≤ most)
 number-within least most text e =
-    let value = second _ _ (second _ _ (second _ _ e)) in
-    (leb-true least (digits_value 10 text) (first _ _ value), leb-true (digits_value 10 text) most (second (nat_le least (digits_value 10 text)) _ value))
+    let value = digits_value 10 text in
+    let limits : (nat_le least value && nat_le value most) ≡ true =
+    second (list_all is_ascii_digit text) _ (second (nat_le (length text) 10) _ (second (nat_le 1 (length text)) _ e)) in
+    (leb-true least value (first (nat_le least value) (nat_le value most) limits), leb-true value most (second (nat_le least value) (nat_le value most) limits))
 
 fitting-within : (text : Option Text) (n : ℕ) → fits (is_number 1 most_drill) text ≡ true → option_map (digits_value 10) text ≡ Some n → (0 < n) × (n ≤ most_drill)
 fitting-within None n f e = absurd (let h : None ≡ Some n = e in cc)

@@ -7,7 +7,18 @@ use Rattle.sgps_cli.specs.Ends.{IsClosed, Seen}
 use Rattle.sgps_cli.proofs.Written.{wrote-none}
 use Rattle.sgps_cli.proofs.Beginning.{missing-same, accepted-words, nothing-named, refused-words}
 use Rattle.sgps_cli.proofs.Closing.{closed-by-words, closed-without-memory, same-ended}
+use Rattle.sg_words.proofs.Limits.{drill-within}
 use Rattle.sgps_cli.proofs.settle.settle.Goals as goal
+
+pub play_drill-requires-clause-some : goal.play_drill-requires-clause-some
+play_drill-requires-clause-some g c =
+    let words = map string_bytes c.args.words.now in
+    (drill-within words (wanted_of c.in-Ok.settings) c.in-Some.statements (accepted-words (settings_of words) c.read_words.result c.in-Ok.settings c.read_words.ensures c.in-Ok.is) c.in-Some.is).0
+
+pub play_drill-requires-clause-few : goal.play_drill-requires-clause-few
+play_drill-requires-clause-few g c =
+    let words = map string_bytes c.args.words.now in
+    (drill-within words (wanted_of c.in-Ok.settings) c.in-Some.statements (accepted-words (settings_of words) c.read_words.result c.in-Ok.settings c.read_words.ensures c.in-Ok.is) c.in-Some.is).1
 
 pub returns-in-None-clause-ends : goal.returns-in-None-clause-ends
 returns-in-None-clause-ends g c =
