@@ -10,7 +10,7 @@ fn drill_of_three(rt: HostRuntime) -> Result<(), Fail> {
     let lines = b"Print(Genus(NumericalSemigroup(37,38)),\"\\n\");\n\
         Print(PseudoFrobenius(NumericalSemigroup(5,6)),\"\\n\");\n\
         Print(LengthsOfFactorizations(2256,NumericalSemigroup(47,48)),\"\\n\");\n";
-    assert!(rt; text.as_slice() == lines);
+    assert!(rt; text.as_slice() == lines.as_slice());
     Ok(())
 }
 
