@@ -34,5 +34,6 @@ fn elasticity_told(generators: &Nats) -> Result<Made, CallFault>
     requires { IsLawfulList generators.now }
     ensures { Tells result (elasticity_row generators.now) }
 {
-    Ok(quotient(elasticity_of(generators)))
+    let found = elasticity_of(generators);
+    Ok(quotient(found))
 }
