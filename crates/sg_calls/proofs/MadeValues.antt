@@ -14,7 +14,7 @@ use Rattle.sg_rows.specs.Values.{answers, natural_list}
 use Rattle.sg_rows.specs.declared.fault.CallFault.TheVariants.{Script}
 use Rattle.sg_rows.specs.declared.fault.Fault.TheVariants.{TooLarge}
 use Rattle.sg_rows.specs.declared.made.Made.{Made}
-use Rattle.sg_rows.specs.declared.made.Made.TheVariants.{Integer, Natural, Truth, Integers, Naturals, Vectors, Semigroup, Semigroups, Ideal}
+use Rattle.sg_rows.specs.declared.made.Made.TheVariants.{Integer, Natural, Truth, Ratio, Integers, Naturals, Vectors, Semigroup, Semigroups, Ideal}
 use Rattle.sg_rows.proofs.Listing.{delivers_integers, delivers_heavy_integers, delivers_naturals, delivers_heavy_naturals, delivers_semigroups, delivers_heavy_semigroups, delivers_vectors, delivers_heavy_vectors, plain_integers, plain_naturals, plain_vectors, integers_known, naturals_known, vectors_known}
 use Rattle.sg_rows.proofs.Replying.{answers_pass, delivered}
 use Rattle.sg_calls.specs.Delivered.{IsValueOf, weight_made}
@@ -82,6 +82,7 @@ light_delivers (Semigroups L) bits few = delivers_semigroups L few
 light_delivers (Integer z) bits few = delivers_single (int z) bits refl refl
 light_delivers (Natural n) bits few = delivers_single (int (pos n)) bits refl refl
 light_delivers (Truth b) bits few = delivers_single (datum (Truth b)) bits refl refl
+light_delivers (Ratio r) bits few = delivers_single (datum (Ratio r)) bits refl refl
 light_delivers (Semigroup G) bits few = delivers_single (datum (Semigroup G)) bits refl refl
 light_delivers (Ideal G I) bits few = delivers_single (datum (Ideal G I)) bits refl refl
 

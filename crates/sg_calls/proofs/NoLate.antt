@@ -53,7 +53,9 @@ use Rattle.sg_rows_ideals.specs.declared.ideals.BothIdeal.{BothIdeal}
 use Rattle.sg_rows_ideals.specs.declared.ideals.BothIdeal.TheVariants as both_ideal
 use Rattle.sg_rows_ideals.specs.declared.pairs.Pair.TheVariants as pair
 use Rattle.sg_rows_factorizations.specs.Commands as factorizations
-use Rattle.sg_rows_factorizations.specs.Elements.{element_row, semigroup_omega_row}
+use Rattle.sg_rows_factorizations.specs.Elements.{element_row, lengths_of_all_row, semigroup_omega_row}
+use Rattle.sg_rows_factorizations.specs.declared.all_lengths.AllLengths.{AllLengths}
+use Rattle.sg_rows_factorizations.specs.declared.all_lengths.AllLengths.TheVariants.{Elasticity}
 use Rattle.sg_rows_factorizations.specs.declared.command.FactorizationCommand.{FactorizationCommand}
 use Rattle.sg_rows_factorizations.specs.declared.command.FactorizationCommand.TheVariants as factorization
 use Rattle.sg_rows_factorizations.specs.declared.element.ElementFact.{ElementFact}
@@ -194,7 +196,11 @@ element_late element.Factorizations G x = refl
 element_late element.Lengths G x = refl
 element_late element.OmegaPrimality G x = refl
 
+lengths_of_all_late : (f : AllLengths) (G : List ℕ) → (lengths_of_all_row f G).late ≡ []
+lengths_of_all_late Elasticity G = refl
+
 factorizations_late : (c : FactorizationCommand) (args : Items Things) → late_of (factorizations.case_of c args) ≡ []
+factorizations_late (factorization.OfGenerators f) args = late_fitted (one as_semigroup args) _ (lengths_of_all_row f) (lengths_of_all_late f)
 factorizations_late (factorization.OfElement f) args = late_fitted (two semigroup_and_integer args) _ (λ p. element_row f p.0 p.1) (λ p. element_late f p.0 p.1)
 factorizations_late factorization.OmegaPrimality args =
     late_or_else (of_semigroup (apery_table ∷ []) args semigroup_omega_row) (of_semigroup_and_integer (apery_table ∷ []) args (element_row element.OmegaPrimality))

@@ -110,6 +110,7 @@ fn value_of(alloc: Global, ids: &mut Ids, made: Made) -> Result<Value, AllocErro
         Made::Integer(z) => Ok(Value::Int(z)),
         Made::Natural(n) => Ok(Value::Int(n as i64)),
         Made::Truth(holds) => Ok(Value::Bool(holds)),
+        Made::Ratio(ratio) => Ok(Value::Ratio(ratio)),
         Made::Integers(zs) => list_value(alloc, integer_values(alloc, zs.as_slice())?),
         Made::Naturals(ns) => list_value(alloc, natural_values(alloc, ns.as_slice())?),
         Made::Vectors(vectors) => list_value(alloc, vector_values(alloc, vectors.as_slice())?),

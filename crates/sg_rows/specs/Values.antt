@@ -1,8 +1,8 @@
 -- Values of rows by their kinds.
-use Rattle.std.specs.Prelude.{◌≡◌, ◌↔◌, ◌+◌, ℕ, suc, ℤ, pos, Bool, IsTrue, List, [], ◌∷◌, length, map}
+use Rattle.std.specs.Prelude.{◌≡◌, ◌↔◌, ◌+◌, ℕ, suc, ℤ, pos, Bool, IsTrue, List, [], ◌∷◌, length, map, ◌==◌, if◌then◌else◌}
 use Rattle.sg_defs.specs.Membership.{Generates}
 use Rattle.sg_apery.specs.Fit.{IsFit}
-use Rattle.sg_value.specs.Data.{Data, int, truth, list, semigroup, semigroups, items_of, Kind}
+use Rattle.sg_value.specs.Data.{Data, int, truth, list, ratio, semigroup, semigroups, items_of, Kind}
 use Rattle.sg_rows.specs.Order.{Plain, Row}
 
 -- a row that refuses nothing by itself
@@ -18,6 +18,14 @@ an_integer P d = (z : ℤ) × (d ≡ int z) × P z
 -- a natural of which P holds
 abbrev pub a_natural : (ℕ → Type 0) → Plain → Type 0
 a_natural P d = (n : ℕ) × (d ≡ int (pos n)) × P n
+
+-- p / q in lowest terms: an integer where q is 1
+abbrev pub quotient : {H : Kind → Type 0} → ℕ → ℕ → Data H
+quotient p q = if q == 1 then int (pos p) else ratio p q
+
+-- a quotient p / q of which P holds
+abbrev pub a_quotient : (ℕ → ℕ → Type 0) → Plain → Type 0
+a_quotient P d = (p q : ℕ) × (d ≡ quotient p q) × P p q
 
 -- whether P holds
 abbrev pub whether : Type 0 → Plain → Type 0
