@@ -124,3 +124,10 @@ module _ {A : Type 0} (o : Option A) (asks : A → List Asking) (row : A → Row
     -- it did not, and all was asked for
     pub asks_passed : Passes (row a) → new ≡ after_asked (asks a ++ (row a).late) old → Asks r (fitted o asks row) old new
     asks_passed passes h = subst (λ p. Asks r (fitted p asks row) old new) (sym is) (at_end r _ (asks a ++ (row a).late, inl (passes, refl), h))
+
+  -- the same of the kinds that are looked for first, and of the others
+  pub asks_first : (a : A) (rest : Case) → o ≡ Some a → Asks r (fitted o asks row) old new → Asks r (or_else (fitted o asks row) rest) old new
+  asks_first a rest is h = subst (λ p. Asks r (fitted p asks row) old new → Asks r (or_else (fitted p asks row) rest) old new) (sym is) (λ k. k) h
+
+  pub asks_other : (rest : Case) → o ≡ None → Asks r rest old new → Asks r (or_else (fitted o asks row) rest) old new
+  asks_other rest is h = subst (λ p. Asks r (or_else (fitted p asks row) rest) old new) (sym is) h

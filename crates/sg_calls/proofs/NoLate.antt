@@ -61,7 +61,6 @@ use Rattle.sg_rows_factorizations.specs.declared.element.ElementFact.TheVariants
 use Rattle.sg_calls.specs.Early.{early_of, late_of}
 use Rattle.sg_calls.specs.Operations.{operation, addition, subtraction, multiplication, membership, moved_or_generated, calculation, of_integers}
 use Rattle.sg_calls.specs.Rows.{shared_case}
-use Rattle.sg_calls.specs.declared.command.Shared.{Shared}
 use Rattle.sg_calls.specs.declared.command.Shared.TheVariants.{Intersection, MinimalGenerators}
 use Rattle.sg_calls.specs.declared.operator.Operator.{Operator}
 use Rattle.sg_calls.specs.declared.operator.Operator.TheVariants.{Plus, Less, Times, Mod, Eq, Ne, Lt, Le, Gt, Ge, Member}
@@ -201,9 +200,11 @@ factorizations_late factorization.OmegaPrimality args =
 
 -- ---- all commands, all operators
 
-pub shared_late : (s : Shared) (args : Items Things) → late_of (shared_case s args) ≡ []
-shared_late Intersection args = late_or_else (makers.case_of maker.Intersection args) (ideals.case_of (ideal.OfTwoIdeals pair.Intersection) args) (makers_late maker.Intersection args) (ideals_late (ideal.OfTwoIdeals pair.Intersection) args)
-shared_late MinimalGenerators args = late_or_else (facts.case_of (fact.OfGenerators generators.MinimalGenerators) args) (ideals.case_of (ideal.OfIdeal ideal_fact.Generators) args) (facts_late (fact.OfGenerators generators.MinimalGenerators) args) (ideals_late (ideal.OfIdeal ideal_fact.Generators) args)
+pub intersection_late : (args : Items Things) → late_of (shared_case Intersection args) ≡ []
+intersection_late args = late_or_else (makers.case_of maker.Intersection args) (ideals.case_of (ideal.OfTwoIdeals pair.Intersection) args) (makers_late maker.Intersection args) (ideals_late (ideal.OfTwoIdeals pair.Intersection) args)
+
+pub minimal_generators_late : (args : Items Things) → late_of (shared_case MinimalGenerators args) ≡ []
+minimal_generators_late args = late_or_else (facts.case_of (fact.OfGenerators generators.MinimalGenerators) args) (ideals.case_of (ideal.OfIdeal ideal_fact.Generators) args) (facts_late (fact.OfGenerators generators.MinimalGenerators) args) (ideals_late (ideal.OfIdeal ideal_fact.Generators) args)
 
 -- operators on integers ask for nothing
 pub calculation_early : (op : Operator) (x y : ℤ) → early_of (calculation op x y) ≡ []

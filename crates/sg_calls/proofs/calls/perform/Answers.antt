@@ -5,7 +5,7 @@ use Rattle.sg_calls.specs.After.{Asks}
 use Rattle.sg_calls.specs.Rows.{row}
 use Rattle.sg_calls.specs.declared.command.Command.TheVariants as command
 use Rattle.sg_calls.proofs.EarlyLemmas.{all_asked, asked_none}
-use Rattle.sg_calls.proofs.NoLate.{lists_early, lists_late, makers_late, facts_late, shapes_late, ideals_late, factorizations_late, shared_late}
+use Rattle.sg_calls.proofs.NoLate.{lists_early, lists_late, makers_late, facts_late, shapes_late, ideals_late, factorizations_late}
 use Rattle.sg_calls.proofs.calls.perform.Goals as goal
 
 pub returns-in-Lists-clause-asks : goal.returns-in-Lists-clause-asks
@@ -48,14 +48,6 @@ returns-in-Ideals-clause-asks c =
     let one = command.Ideals c.in-Ideals.command in
     let r = c.on_ideals.result in
     subst (λ k. Asks r (row n k args) c.args.store.now.attributes c.on_ideals.new.store.attributes) (sym c.in-Ideals.is) (all_asked r c.on_ideals.new.store.ids (row n one args) _ _ (ideals_late c.in-Ideals.command args) c.on_ideals.ensures.reply c.on_ideals.ensures.asked)
-
-pub returns-in-Shared-clause-asks : goal.returns-in-Shared-clause-asks
-returns-in-Shared-clause-asks c =
-    let n = c.args.budget in
-    let args = plain_of_all (named c.args.store.now.ids) c.args.args.now in
-    let one = command.Shared c.in-Shared.shared in
-    let r = c.on_shared.result in
-    subst (λ k. Asks r (row n k args) c.args.store.now.attributes c.on_shared.new.store.attributes) (sym c.in-Shared.is) (all_asked r c.on_shared.new.store.ids (row n one args) _ _ (shared_late c.in-Shared.shared args) c.on_shared.ensures.reply c.on_shared.ensures.asked)
 
 pub returns-in-Factorizations-clause-asks : goal.returns-in-Factorizations-clause-asks
 returns-in-Factorizations-clause-asks c =
