@@ -78,7 +78,7 @@ module _ (G : List ℕ) (semigroup : IsNumericalSemigroup G) (minimal : IsMinima
   pub catenary-small : (c : ℕ) → IsCatenary (IsFactorization G) c → c < 2 ^ 63
   catenary-small c h =
       let chained = chained-from_classes (IsFactorization G) (λ n. n) (length G) (numbers-family G semigroup.positive) within.span
-      (λ n x y p q apart. (x, (class-here (IsFactorization G n) x p, short-enough n x (x, y, p, q, apart) p))) in
+      (λ n x y p q apart. (x, class-here (IsFactorization G n) x p, short-enough n x (x, y, p, q, apart) p)) in
       let short = within.short in
       elim (cases_lt within.span c) [
         | inl less ↦ let n = h.least within.span less in absurd (n.1 (chained n.0))
