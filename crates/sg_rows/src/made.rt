@@ -7,7 +7,7 @@ ghost use Rattle.sg_rows.specs.Values.{answers, quotient};
 ghost use Rattle.sg_value.specs.Data.{int};
 
 use crate::fault::{CallFault, Fault};
-use sg_nat::{Ints, Nats, Ratio, Rows};
+use sg_nat::{Ints, ListOf, Nats, Ratio, Rows};
 
 /// What a row made, before it is in any store. Contracts see it as the plain value that it is (`specs/Made`).
 #[derive(Drop)]
@@ -20,12 +20,16 @@ pub enum Made {
     Truth(bool),
     /// A fraction in lowest terms, whose denominator is above 1.
     Ratio(Ratio),
+    /// That there is no value of the kind that is asked for.
+    Fail,
     /// A list of integers.
     Integers(Ints),
     /// A list of naturals below 2^63.
     Naturals(Nats),
     /// A list of vectors of naturals below 2^63.
     Vectors(Rows),
+    /// A list of lists of vectors of naturals below 2^63.
+    VectorLists(ListOf<Rows>),
     /// A semigroup, by its minimal generators.
     Semigroup(Nats),
     /// A list of semigroups, each by its minimal generators.

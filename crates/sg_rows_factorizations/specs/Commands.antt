@@ -18,8 +18,7 @@ use Rattle.sg_rows_factorizations.specs.declared.element.ElementFact.TheVariants
 
 abbrev pub names : List (List ℕ × FactorizationCommand)
 names =
-    (codes "CatenaryDegree", OfElement element.CatenaryDegree)
-    ∷ (codes "DeltaSet", OfElement element.DeltaSet)
+    (codes "DeltaSet", OfElement element.DeltaSet)
     ∷ (codes "Elasticity", OfGenerators Elasticity)
     ∷ (codes "Factorizations", OfElement element.Factorizations)
     ∷ (codes "LengthsOfFactorizations", OfElement element.Lengths)

@@ -18,12 +18,8 @@ pub enum FactorizationCommand {
     OmegaPrimality,
 }
 
-/// The names of all commands of this crate.
-static NAMES: [Named<FactorizationCommand>; 6] = [
-    Named(
-        b"CatenaryDegree",
-        FactorizationCommand::OfElement(ElementFact::CatenaryDegree),
-    ),
+/// The names of all commands of this crate but for `CatenaryDegree`, which is also that of a semigroup.
+static NAMES: [Named<FactorizationCommand>; 5] = [
     Named(
         b"DeltaSet",
         FactorizationCommand::OfElement(ElementFact::DeltaSet),

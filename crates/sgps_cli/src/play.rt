@@ -95,6 +95,8 @@ fn unplayed() -> Finish
             tables_made: 0,
             pseudo_asked: 0,
             pseudo_made: 0,
+            presentations_asked: 0,
+            presentations_made: 0,
         },
     }
 }
