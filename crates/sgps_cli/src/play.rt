@@ -84,7 +84,7 @@ pub fn play<S: Source, W: Sink, E: Sink>(
 }
 
 /// Nothing was played for want of memory.
-fn unplayed() -> Finish
+pub fn unplayed() -> Finish
     ensures cause { result.cause ≡ Cause.Memory }
     ensures counts { AreCounts (nothing_asked 0) result.counts }
 {
