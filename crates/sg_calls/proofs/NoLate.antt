@@ -1,14 +1,14 @@
 -- Rows that ask for nothing late, and cases that ask for nothing at all.
 use Rattle.std.proofs.Common.{◌≡◌, ℕ, ℤ, List, [], ◌∷◌, Option, Some, None, refl}
 use Rattle.sg_defs.specs.Membership.{IsIntegerMember}
-use Rattle.sg_value.specs.Data.{Items, int}
+use Rattle.sg_value.specs.Data.{Items}
 use Rattle.sg_value.specs.Plain.{Things}
 use Rattle.sg_rows.specs.Alternatives.{or_else}
 use Rattle.sg_rows.specs.Asks.{apery_table, asked_of, nothing}
 use Rattle.sg_rows.specs.Entries.{IsEntry}
 use Rattle.sg_rows.specs.Forms.{of_semigroup, of_semigroup_and_integer, on_integer_and_semigroup, on_integer_and_ideal, on_list_and_semigroup, on_two_ideals}
 use Rattle.sg_rows.specs.Kinds.{fitted, given, one, two, three, as_integers, as_list, as_semigroup, as_ideal, list_or_integers, two_integers, three_integers, two_semigroups, two_ideals, semigroup_and_integer, integer_then_semigroup, integer_then_ideal, list_then_semigroup}
-use Rattle.sg_rows.specs.Order.{Plain, Case, fits}
+use Rattle.sg_rows.specs.Order.{Plain, Case}
 use Rattle.sg_rows.specs.Values.{answers, whether}
 use Rattle.sg_rows_lists.specs.Concatenations.{concatenated}
 use Rattle.sg_rows_lists.specs.Lists as lists
@@ -59,7 +59,7 @@ use Rattle.sg_rows_factorizations.specs.declared.command.FactorizationCommand.Th
 use Rattle.sg_rows_factorizations.specs.declared.element.ElementFact.{ElementFact}
 use Rattle.sg_rows_factorizations.specs.declared.element.ElementFact.TheVariants as element
 use Rattle.sg_calls.specs.Early.{early_of, late_of}
-use Rattle.sg_calls.specs.Operations.{operation, addition, subtraction, multiplication, membership, moved_or_generated, calculation, of_integers}
+use Rattle.sg_calls.specs.Operations.{operation, membership, moved_or_generated, calculation, of_integers}
 use Rattle.sg_calls.specs.Rows.{shared_case}
 use Rattle.sg_calls.specs.declared.command.Shared.{Shared}
 use Rattle.sg_calls.specs.declared.command.Shared.TheVariants.{Intersection, MinimalGenerators}

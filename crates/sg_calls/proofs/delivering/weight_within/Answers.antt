@@ -1,6 +1,5 @@
-use Rattle.std.proofs.Common.{◌≡◌, ◌+◌, ◌<◌, ◌≤◌, ℕ, length, take, min, ap, arith}
+use Rattle.std.proofs.Common.{◌+◌, length, ap, arith}
 use Rattle.std.proofs.lemmas.List.{take_all}
-use Rattle.sg_value.specs.declared.limits.TheConstants.{WEIGHT_LIMIT}
 use Rattle.sg_rows.specs.Values.{weight_of_vectors}
 use Rattle.sg_rows.proofs.Listing.{light}
 use Rattle.sg_calls.proofs.Weights.{weight-front, weight-more}
