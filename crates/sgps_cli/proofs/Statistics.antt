@@ -44,15 +44,17 @@ kept-is capacity asked =
     ∙ ap (λ r. record { tables = after_asks capacity (tables_asked asked); pseudo = after_asks capacity (numbers_asked asked); presentations = r }) (in_turn-empty capacity (presentations_asked asked)))
 
 -- the numbers that were counted are told as they are kept
+abbrev counts_with : ℕ → ℕ → ℕ → ℕ → ℕ → ℕ → Counts
+counts_with t u p q r s = record { tables_asked = t; tables_made = u; pseudo_asked = p; pseudo_made = q; presentations_asked = r; presentations_made = s }
+
 counted-is : (a : Attributes) (n : Counts) → AreCounts a n → n ≡ counts_of a
 counted-is a n h =
-    let a1 = h.tables_asked in
-    let a2 = h.tables_made in
-    let b1 = h.pseudo_asked in
-    let b2 = h.pseudo_made in
-    let c1 = h.presentations_asked in
-    let c2 = h.presentations_made in
-    cc
+    ap (λ x. counts_with x n.tables_made n.pseudo_asked n.pseudo_made n.presentations_asked n.presentations_made) h.tables_asked
+    ∙ ap (λ x. counts_with a.tables.asked x n.pseudo_asked n.pseudo_made n.presentations_asked n.presentations_made) h.tables_made
+    ∙ ap (λ x. counts_with a.tables.asked a.tables.made x n.pseudo_made n.presentations_asked n.presentations_made) h.pseudo_asked
+    ∙ ap (λ x. counts_with a.tables.asked a.tables.made a.pseudo.asked x n.presentations_asked n.presentations_made) h.pseudo_made
+    ∙ ap (λ x. counts_with a.tables.asked a.tables.made a.pseudo.asked a.pseudo.made x n.presentations_made) h.presentations_asked
+    ∙ ap (λ x. counts_with a.tables.asked a.tables.made a.pseudo.asked a.pseudo.made a.presentations.asked x) h.presentations_made
 
 counted-lines : (a : Attributes) (n : Counts) → AreCounts a n → counts_lines n ≡ lines_of a
 counted-lines a n h = ap counts_lines (counted-is a n h)
