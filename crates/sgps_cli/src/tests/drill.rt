@@ -35,7 +35,7 @@ fn a_drill_shows_its_three_lines(rt: HostRuntime) -> Result<(), Fail> {
     assert!(rt;
         drilled(alloc, &["--keep-going", "--drill=3"], &[], LINES, b"")? == Some(Cause::Ok)
     );
-    let counted = b"table asked 1 made 1\npseudo asked 1 made 1\npresentation asked 0 made 0\n";
+    let counted = b"table asked 2 made 2\npseudo asked 1 made 1\npresentation asked 0 made 0\n";
     assert!(rt;
         drilled(alloc, &["--drill", "3", "--stats"], &[], LINES, counted)? == Some(Cause::Ok)
     );
