@@ -1,5 +1,5 @@
 -- What was asked for at once, and what a case asks for once there is a reply.
-use Rattle.std.proofs.Common.{◌≡◌, ◌⊎◌, ℕ, List, [], ◌++◌, Option, Some, None, Result, Ok, Err, inl, inr, refl, sym, ◌∙◌, ap, subst}
+use Rattle.std.proofs.Common.{◌≡◌, ℕ, List, [], ◌++◌, Option, Some, None, Result, Ok, Err, inl, inr, refl, sym, ◌∙◌, ap, subst}
 use Rattle.std.proofs.lemmas.List.{append-nil}
 use Rattle.sg_value.specs.Known.{Known}
 use Rattle.sg_value.specs.declared.value.Value.{Value}
@@ -7,7 +7,7 @@ use Rattle.sg_store.specs.Attributes.{Attributes}
 use Rattle.sg_rows.specs.Alternatives.{or_else}
 use Rattle.sg_rows.specs.Asks.{Attribute, Asking, asked_of, nothing}
 use Rattle.sg_rows.specs.Kinds.{fitted, given}
-use Rattle.sg_rows.specs.Order.{Reply, Row, Case, unfit, fits, IsReply, AreAsked}
+use Rattle.sg_rows.specs.Order.{Reply, Row, Case, unfit, fits, IsReply, Passes, Refuses, AreAsked}
 use Rattle.sg_rows.specs.Replies.{Replies}
 use Rattle.sg_rows.specs.declared.fault.CallFault.{CallFault}
 use Rattle.sg_rows.specs.declared.fault.CallFault.TheVariants.{Script, Memory}
@@ -108,3 +108,26 @@ pub all_asked : (r : Result Value CallFault) (ids : Known) (c : Case) (old new :
 all_asked (Ok v) ids c old new is reply h = (early_of c, early_asked c _ is reply.0, h)
 all_asked (Err (Script e)) ids c old new is reply h = (early_of c, early_asked c _ is reply, h)
 all_asked (Err (Memory e)) ids c old new is reply h = tt
+
+-- ---- what a case asks for where its row asks for something late
+
+module _ {A : Type 0} (o : Option A) (asks : A → List Asking) (row : A → Row) (r : Result Value CallFault) (old new : Attributes) where
+  -- the kinds that are wanted were not found, and nothing was asked for
+  pub asks_unfit : o ≡ None → new ≡ old → Asks r (fitted o asks row) old new
+  asks_unfit is h = subst (λ p. Asks r (fitted p asks row) old new) (sym is) (at_end r _ ([], refl, h))
+
+  module _ (a : A) (is : o ≡ Some a) where
+    -- the row refused, and no more than what it asks for at once was asked for
+    pub asks_refused : Refuses (row a) → new ≡ after_asked (asks a) old → Asks r (fitted o asks row) old new
+    asks_refused refuses h = subst (λ p. Asks r (fitted p asks row) old new) (sym is) (at_end r _ (asks a, inr (refuses, refl), h))
+
+    -- it did not, and all was asked for
+    pub asks_passed : Passes (row a) → new ≡ after_asked (asks a ++ (row a).late) old → Asks r (fitted o asks row) old new
+    asks_passed passes h = subst (λ p. Asks r (fitted p asks row) old new) (sym is) (at_end r _ (asks a ++ (row a).late, inl (passes, refl), h))
+
+  -- the same of the kinds that are looked for first, and of the others
+  pub asks_first : (a : A) (rest : Case) → o ≡ Some a → Asks r (fitted o asks row) old new → Asks r (or_else (fitted o asks row) rest) old new
+  asks_first a rest is h = subst (λ p. Asks r (fitted p asks row) old new → Asks r (or_else (fitted p asks row) rest) old new) (sym is) (λ k. k) h
+
+  pub asks_other : (rest : Case) → o ≡ None → Asks r rest old new → Asks r (or_else (fitted o asks row) rest) old new
+  asks_other rest is h = subst (λ p. Asks r (or_else (fitted p asks row) rest) old new) (sym is) h

@@ -52,6 +52,10 @@ module _ {A : Type 0} (o : Option A) (asks : A → List Asking) (row : A → Row
   pub other_fitted : (r : Result Value CallFault) (rest : Case) → o ≡ None → Replies r store rest → Replies r store (or_else (fitted o asks row) rest)
   other_fitted r rest is h = subst (λ p. Replies r store (or_else (fitted p asks row) rest)) (sym is) h
 
+  -- the same of a reply over what was found
+  pub first_case : (a : A) (r : Result Value CallFault) (rest : Case) → o ≡ Some a → Replies r store (fitted o asks row) → Replies r store (or_else (fitted o asks row) rest)
+  first_case a r rest is h = subst (λ p. Replies r store (fitted p asks row) → Replies r store (or_else (fitted p asks row) rest)) (sym is) (λ k. k) h
+
 -- ---- what was asked of the store
 
 -- what a call that found something says of it, and what it says where it found nothing

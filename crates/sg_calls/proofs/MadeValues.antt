@@ -10,12 +10,12 @@ use Rattle.std.specs.Prelude.{pos}
 use Rattle.sg_rows.specs.Made.{datum}
 use Rattle.sg_rows.specs.Order.{Delivers, InBits, IsReplyOf}
 use Rattle.sg_rows.specs.Replies.{RepliesOf}
-use Rattle.sg_rows.specs.Values.{answers, natural_list}
+use Rattle.sg_rows.specs.Values.{answers, natural_list, vector_list}
 use Rattle.sg_rows.specs.declared.fault.CallFault.TheVariants.{Script}
 use Rattle.sg_rows.specs.declared.fault.Fault.TheVariants.{TooLarge}
 use Rattle.sg_rows.specs.declared.made.Made.{Made}
-use Rattle.sg_rows.specs.declared.made.Made.TheVariants.{Integer, Natural, Truth, Integers, Naturals, Vectors, Semigroup, Semigroups, Ideal}
-use Rattle.sg_rows.proofs.Listing.{delivers_integers, delivers_heavy_integers, delivers_naturals, delivers_heavy_naturals, delivers_semigroups, delivers_heavy_semigroups, delivers_vectors, delivers_heavy_vectors, plain_integers, plain_naturals, plain_vectors, integers_known, naturals_known, vectors_known}
+use Rattle.sg_rows.specs.declared.made.Made.TheVariants.{Integer, Natural, Truth, Ratio, Fail, Integers, Naturals, Vectors, VectorLists, Semigroup, Semigroups, Ideal}
+use Rattle.sg_rows.proofs.Listing.{delivers_integers, delivers_heavy_integers, delivers_naturals, delivers_heavy_naturals, delivers_semigroups, delivers_heavy_semigroups, delivers_vectors, delivers_heavy_vectors, delivers_lists, delivers_heavy_lists, plain_integers, plain_naturals, plain_vectors, plain_lists, integers_known, naturals_known, vectors_known, lists_known}
 use Rattle.sg_rows.proofs.Replying.{answers_pass, delivered}
 use Rattle.sg_calls.specs.Delivered.{IsValueOf, weight_made}
 
@@ -52,6 +52,16 @@ module _ (store : Known) where
         bits = tt;
       }
 
+  -- a list of lists of vectors
+  pub lists_value : (ls : List (List (List ℕ))) (vs : List Value) (v : Value) → contents v ≡ list (contents_of_all vs) → contents_of_all vs ≡ items_of (map vector_list ls) → IsValueOf store (VectorLists ls) v
+  lists_value ls vs v is same =
+      let seen = is ∙ ap list same in
+      record {
+        is = ap (data_map (thing_at (named store))) seen ∙ plain_lists (thing_at (named store)) ls;
+        known = subst (EachThing (IsKnown (named store))) (sym seen) (lists_known (IsKnown (named store)) ls);
+        bits = tt;
+      }
+
   -- a list of semigroups
   pub semigroups_value : (L : List (List ℕ)) (vs : List Value) (v : Value) → contents v ≡ list (contents_of_all vs) → plain_of_all (named store) vs ≡ items_of (map semigroup L) → AllKnownIn (named store) vs → IsValueOf store (Semigroups L) v
   semigroups_value L vs v is same known = record {
@@ -78,10 +88,13 @@ light_delivers : (m : Made) → InBits (datum m) → weight_made m < WEIGHT_LIMI
 light_delivers (Integers zs) bits few = delivers_integers zs few
 light_delivers (Naturals ns) bits few = delivers_naturals ns few
 light_delivers (Vectors vs) bits few = delivers_vectors vs few
+light_delivers (VectorLists ls) bits few = delivers_lists ls few
 light_delivers (Semigroups L) bits few = delivers_semigroups L few
 light_delivers (Integer z) bits few = delivers_single (int z) bits refl refl
 light_delivers (Natural n) bits few = delivers_single (int (pos n)) bits refl refl
 light_delivers (Truth b) bits few = delivers_single (datum (Truth b)) bits refl refl
+light_delivers (Ratio r) bits few = delivers_single (datum (Ratio r)) bits refl refl
+light_delivers Fail bits few = delivers_single (datum Fail) bits refl refl
 light_delivers (Semigroup G) bits few = delivers_single (datum (Semigroup G)) bits refl refl
 light_delivers (Ideal G I) bits few = delivers_single (datum (Ideal G I)) bits refl refl
 
@@ -95,6 +108,7 @@ delivers_too_heavy : (m : Made) → WEIGHT_LIMIT ≤ weight_made m → Delivers 
 delivers_too_heavy (Integers zs) many = delivers_heavy_integers zs many
 delivers_too_heavy (Naturals ns) many = delivers_heavy_naturals ns many
 delivers_too_heavy (Vectors vs) many = delivers_heavy_vectors vs many
+delivers_too_heavy (VectorLists ls) many = delivers_heavy_lists ls many
 delivers_too_heavy (Semigroups L) many = delivers_heavy_semigroups L many
 delivers_too_heavy _ many = absurd (omega (arith, many))
 

@@ -1,14 +1,14 @@
 -- Rows that ask for nothing late, and cases that ask for nothing at all.
 use Rattle.std.proofs.Common.{◌≡◌, ℕ, ℤ, List, [], ◌∷◌, Option, Some, None, refl}
 use Rattle.sg_defs.specs.Membership.{IsIntegerMember}
-use Rattle.sg_value.specs.Data.{Items, int}
+use Rattle.sg_value.specs.Data.{Items}
 use Rattle.sg_value.specs.Plain.{Things}
 use Rattle.sg_rows.specs.Alternatives.{or_else}
 use Rattle.sg_rows.specs.Asks.{apery_table, asked_of, nothing}
 use Rattle.sg_rows.specs.Entries.{IsEntry}
 use Rattle.sg_rows.specs.Forms.{of_semigroup, of_semigroup_and_integer, on_integer_and_semigroup, on_integer_and_ideal, on_list_and_semigroup, on_two_ideals}
 use Rattle.sg_rows.specs.Kinds.{fitted, given, one, two, three, as_integers, as_list, as_semigroup, as_ideal, list_or_integers, two_integers, three_integers, two_semigroups, two_ideals, semigroup_and_integer, integer_then_semigroup, integer_then_ideal, list_then_semigroup}
-use Rattle.sg_rows.specs.Order.{Plain, Case, fits}
+use Rattle.sg_rows.specs.Order.{Plain, Case}
 use Rattle.sg_rows.specs.Values.{answers, whether}
 use Rattle.sg_rows_lists.specs.Concatenations.{concatenated}
 use Rattle.sg_rows_lists.specs.Lists as lists
@@ -53,17 +53,16 @@ use Rattle.sg_rows_ideals.specs.declared.ideals.BothIdeal.{BothIdeal}
 use Rattle.sg_rows_ideals.specs.declared.ideals.BothIdeal.TheVariants as both_ideal
 use Rattle.sg_rows_ideals.specs.declared.pairs.Pair.TheVariants as pair
 use Rattle.sg_rows_factorizations.specs.Commands as factorizations
-use Rattle.sg_rows_factorizations.specs.Elements.{element_row, semigroup_omega_row}
+use Rattle.sg_rows_factorizations.specs.Elements.{element_row, lengths_of_all_row, semigroup_omega_row}
+use Rattle.sg_rows_factorizations.specs.declared.all_lengths.AllLengths.{AllLengths}
+use Rattle.sg_rows_factorizations.specs.declared.all_lengths.AllLengths.TheVariants.{Elasticity}
 use Rattle.sg_rows_factorizations.specs.declared.command.FactorizationCommand.{FactorizationCommand}
 use Rattle.sg_rows_factorizations.specs.declared.command.FactorizationCommand.TheVariants as factorization
 use Rattle.sg_rows_factorizations.specs.declared.element.ElementFact.{ElementFact}
 use Rattle.sg_rows_factorizations.specs.declared.element.ElementFact.TheVariants as element
 use Rattle.sg_calls.specs.Early.{early_of, late_of}
-use Rattle.sg_calls.specs.Operations.{operation, addition, subtraction, multiplication, membership, moved_or_generated, calculation, of_integers}
-use Rattle.sg_calls.specs.Rows.{row, shared_case}
-use Rattle.sg_calls.specs.declared.command.Command.{Command}
-use Rattle.sg_calls.specs.declared.command.Command.TheVariants as command
-use Rattle.sg_calls.specs.declared.command.Shared.{Shared}
+use Rattle.sg_calls.specs.Operations.{operation, membership, moved_or_generated, calculation, of_integers}
+use Rattle.sg_calls.specs.Rows.{shared_case}
 use Rattle.sg_calls.specs.declared.command.Shared.TheVariants.{Intersection, MinimalGenerators}
 use Rattle.sg_calls.specs.declared.operator.Operator.{Operator}
 use Rattle.sg_calls.specs.declared.operator.Operator.TheVariants.{Plus, Less, Times, Mod, Eq, Ne, Lt, Le, Gt, Ge, Member}
@@ -89,7 +88,7 @@ integers_late integers_fact.Maximum zs = refl
 integers_late integers_fact.Minimum zs = refl
 integers_late integers_fact.Sum zs = refl
 
-lists_late : (c : ListCommand) (args : Items Things) → late_of (lists.case_of c args) ≡ []
+pub lists_late : (c : ListCommand) (args : Items Things) → late_of (lists.case_of c args) ≡ []
 lists_late (list_command.OfList f) args = late_fitted (one as_integers args) nothing (lists.integers_row f) (integers_late f)
 lists_late (list_command.OfListOrIntegers f) args = late_fitted (list_or_integers args) nothing (lists.integers_row f) (integers_late f)
 lists_late list_command.Length args = late_fitted (one as_list args) nothing lists.length_row (λ ds. refl)
@@ -104,7 +103,7 @@ maker_late_of integers_maker.ByGaps zs = refl
 maker_late_of integers_maker.ByGenerators zs = refl
 maker_late_of integers_maker.BySmallElements zs = refl
 
-makers_late : (m : Maker) (args : Items Things) → late_of (makers.case_of m args) ≡ []
+pub makers_late : (m : Maker) (args : Items Things) → late_of (makers.case_of m args) ≡ []
 makers_late (maker.OfList m) args = late_fitted (one as_integers args) nothing (makers.integers_row m) (maker_late_of m)
 makers_late (maker.OfListOrIntegers m) args = late_fitted (list_or_integers args) nothing (makers.integers_row m) (maker_late_of m)
 makers_late maker.Modular args = late_fitted (two two_integers args) nothing _ (λ p. refl)
@@ -135,7 +134,7 @@ numbers_late numbers.Type G = refl
 both_late : (f : BothFact) (G : List ℕ) → (facts.both_row f G).late ≡ []
 both_late both_fact.SpecialGaps G = refl
 
-facts_late : (f : Fact) (args : Items Things) → late_of (facts.case_of f args) ≡ []
+pub facts_late : (f : Fact) (args : Items Things) → late_of (facts.case_of f args) ≡ []
 facts_late (fact.OfGenerators f) args = late_fitted (one as_semigroup args) _ (facts.generators_row f) (generators_late f)
 facts_late (fact.OfTable f) args = late_fitted (one as_semigroup args) _ (facts.table_row f) (table_late f)
 facts_late (fact.OfNumbers f) args = late_fitted (one as_semigroup args) _ (facts.numbers_row f) (numbers_late f)
@@ -160,7 +159,7 @@ table_test_late table_test.IsSymmetric G = refl
 decomposition_late : (p : Decomposition) (G : List ℕ) → (shapes.decomposition_row p G).late ≡ []
 decomposition_late decomposition.IntoIrreducibles G = refl
 
-shapes_late : (s : Shape) (args : Items Things) → late_of (shapes.case_of s args) ≡ []
+pub shapes_late : (s : Shape) (args : Items Things) → late_of (shapes.case_of s args) ≡ []
 shapes_late (shape.TestOfGenerators t) args = late_fitted (one as_semigroup args) _ (shapes.generators_row t) (test_late t)
 shapes_late (shape.TestOfTable t) args = late_fitted (one as_semigroup args) _ (shapes.table_row t) (table_test_late t)
 shapes_late (shape.Closure c) args = late_fitted (one as_semigroup args) _ (shapes.closure_row c) (λ G. refl)
@@ -178,7 +177,7 @@ table_ideal_late table_ideal.Maximal G = refl
 both_ideal_late : (i : BothIdeal) (G : List ℕ) → (ideals.both_row i G).late ≡ []
 both_ideal_late both_ideal.Canonical G = refl
 
-ideals_late : (c : IdealCommand) (args : Items Things) → late_of (ideals.case_of c args) ≡ []
+pub ideals_late : (c : IdealCommand) (args : Items Things) → late_of (ideals.case_of c args) ≡ []
 ideals_late (ideal.OfIdeal f) args = late_fitted (one as_ideal args) _ (fact_row f) (ideal_fact_late f)
 ideals_late (ideal.OfTable i) args = late_fitted (one as_semigroup args) _ (ideals.table_row i) (table_ideal_late i)
 ideals_late (ideal.OfBoth i) args = late_fitted (one as_semigroup args) _ (ideals.both_row i) (both_ideal_late i)
@@ -194,7 +193,11 @@ element_late element.Factorizations G x = refl
 element_late element.Lengths G x = refl
 element_late element.OmegaPrimality G x = refl
 
-factorizations_late : (c : FactorizationCommand) (args : Items Things) → late_of (factorizations.case_of c args) ≡ []
+lengths_of_all_late : (f : AllLengths) (G : List ℕ) → (lengths_of_all_row f G).late ≡ []
+lengths_of_all_late Elasticity G = refl
+
+pub factorizations_late : (c : FactorizationCommand) (args : Items Things) → late_of (factorizations.case_of c args) ≡ []
+factorizations_late (factorization.OfGenerators f) args = late_fitted (one as_semigroup args) _ (lengths_of_all_row f) (lengths_of_all_late f)
 factorizations_late (factorization.OfElement f) args = late_fitted (two semigroup_and_integer args) _ (λ p. element_row f p.0 p.1) (λ p. element_late f p.0 p.1)
 factorizations_late factorization.OmegaPrimality args =
     late_or_else (of_semigroup (apery_table ∷ []) args semigroup_omega_row) (of_semigroup_and_integer (apery_table ∷ []) args (element_row element.OmegaPrimality))
@@ -203,19 +206,11 @@ factorizations_late factorization.OmegaPrimality args =
 
 -- ---- all commands, all operators
 
-shared_late : (s : Shared) (args : Items Things) → late_of (shared_case s args) ≡ []
-shared_late Intersection args = late_or_else (makers.case_of maker.Intersection args) (ideals.case_of (ideal.OfTwoIdeals pair.Intersection) args) (makers_late maker.Intersection args) (ideals_late (ideal.OfTwoIdeals pair.Intersection) args)
-shared_late MinimalGenerators args = late_or_else (facts.case_of (fact.OfGenerators generators.MinimalGenerators) args) (ideals.case_of (ideal.OfIdeal ideal_fact.Generators) args) (facts_late (fact.OfGenerators generators.MinimalGenerators) args) (ideals_late (ideal.OfIdeal ideal_fact.Generators) args)
+pub intersection_late : (args : Items Things) → late_of (shared_case Intersection args) ≡ []
+intersection_late args = late_or_else (makers.case_of maker.Intersection args) (ideals.case_of (ideal.OfTwoIdeals pair.Intersection) args) (makers_late maker.Intersection args) (ideals_late (ideal.OfTwoIdeals pair.Intersection) args)
 
--- no row asks for anything late
-pub row_late : (n : ℕ) (c : Command) (args : Items Things) → late_of (row n c args) ≡ []
-row_late n (command.Lists c) args = lists_late c args
-row_late n (command.Makers c) args = makers_late c args
-row_late n (command.Facts c) args = facts_late c args
-row_late n (command.Shapes c) args = shapes_late c args
-row_late n (command.Ideals c) args = ideals_late c args
-row_late n (command.Factorizations c) args = factorizations_late c args
-row_late n (command.Shared s) args = shared_late s args
+pub minimal_generators_late : (args : Items Things) → late_of (shared_case MinimalGenerators args) ≡ []
+minimal_generators_late args = late_or_else (facts.case_of (fact.OfGenerators generators.MinimalGenerators) args) (ideals.case_of (ideal.OfIdeal ideal_fact.Generators) args) (facts_late (fact.OfGenerators generators.MinimalGenerators) args) (ideals_late (ideal.OfIdeal ideal_fact.Generators) args)
 
 -- operators on integers ask for nothing
 pub calculation_early : (op : Operator) (x y : ℤ) → early_of (calculation op x y) ≡ []

@@ -30,6 +30,7 @@ use Rattle.sg_rows_ideals.specs.declared.pairs.Pair.TheVariants.{Difference, Sum
 use Rattle.sg_rows_ideals.specs.declared.pairs.Pair.TheVariants as pair
 use Rattle.sg_rows_ideals.proofs.OneIdeal.{ideal_one, pair_one, generated_one, multiple_one, translate_one, member_one}
 use Rattle.sg_rows_factorizations.proofs.OneCommand.{command_one}
+use Rattle.sg_rows_presentations.proofs.OneCommand as presentations
 use Rattle.sg_rows.proofs.AskLemmas.{one_asked}
 use Rattle.sg_calls.specs.Laws.{Combines}
 use Rattle.sg_calls.specs.Remainders.{IsRemainder}
@@ -38,9 +39,15 @@ use Rattle.sg_calls.specs.Rows.{row}
 use Rattle.sg_calls.specs.Operations.{operation, membership, moved_or_generated, calculation, of_integers, negation}
 use Rattle.sg_calls.specs.Commands.{checked, command_named}
 use Rattle.sg_calls.specs.Answers.{Answer, case_of, reply_unless}
+use Rattle.sg_rows_factorizations.specs.Commands as factorization_commands
+use Rattle.sg_rows_factorizations.specs.declared.command.FactorizationCommand.TheVariants.{OfElement}
+use Rattle.sg_rows_factorizations.specs.declared.element.ElementFact.TheVariants as element
+use Rattle.sg_rows_presentations.specs.Commands as presentation_commands
+use Rattle.sg_rows_presentations.specs.declared.command.PresentationCommand.TheVariants.{OfPresentation}
+use Rattle.sg_rows_presentations.specs.declared.fact.PresentationFact.TheVariants as presentation
 use Rattle.sg_calls.specs.declared.command.Command.{Command}
-use Rattle.sg_calls.specs.declared.command.Command.TheVariants.{Lists, Makers, Facts, Shapes, Ideals, Factorizations, Shared}
-use Rattle.sg_calls.specs.declared.command.Shared.TheVariants.{Intersection, MinimalGenerators}
+use Rattle.sg_calls.specs.declared.command.Command.TheVariants.{Lists, Makers, Facts, Shapes, Ideals, Factorizations, Presentations, Shared}
+use Rattle.sg_calls.specs.declared.command.Shared.TheVariants.{CatenaryDegree, Intersection, MinimalGenerators}
 use Rattle.sg_calls.specs.declared.operator.Operator.{Operator}
 use Rattle.sg_calls.specs.declared.operator.Operator.TheVariants.{Plus, Less, Times, Mod, Eq, Ne, Lt, Le, Gt, Ge, Member}
 
@@ -103,6 +110,11 @@ row_one n (Facts c) args = fact_one c args
 row_one n (Shapes c) args = shape_one c args
 row_one n (Ideals c) args = ideal_one c args
 row_one n (Factorizations c) args = command_one c args
+row_one n (Presentations c) args = presentations.command_one c args
+row_one n (Shared CatenaryDegree) args =
+    let of_semigroup = OfPresentation presentation.CatenaryDegree in
+    let of_element = OfElement element.CatenaryDegree in
+    or_else_one (presentation_commands.case_of of_semigroup args) (factorization_commands.case_of of_element args) (presentations.command_one of_semigroup args) (command_one of_element args)
 row_one n (Shared Intersection) args =
     or_else_one (makers.case_of maker.Intersection args) (ideals.case_of (OfTwoIdeals pair.Intersection) args) (maker_one maker.Intersection args) (ideal_one (OfTwoIdeals pair.Intersection) args)
 row_one n (Shared MinimalGenerators) args =

@@ -36,6 +36,7 @@ use Rattle.sg_rows_ideals.specs.declared.ideals.IdealCommand.TheVariants.{OfIdea
 use Rattle.sg_rows_ideals.specs.declared.pairs.Pair.TheVariants.{Difference, Sum}
 use Rattle.sg_rows_ideals.specs.declared.pairs.Pair.TheVariants as pair
 use Rattle.sg_rows_factorizations.proofs.SomeCommand.{command_some}
+use Rattle.sg_rows_presentations.proofs.SomeCommand as presentations
 use Rattle.sg_rows_ideals.proofs.SomeIdeal.{ideal_some, pair_some, generated_some, multiple_some, translate_some, member_some}
 use Rattle.sg_rows.proofs.AskLemmas.{some_asked}
 use Rattle.sg_calls.specs.Laws.{Combines}
@@ -45,9 +46,15 @@ use Rattle.sg_calls.specs.Rows.{row}
 use Rattle.sg_calls.specs.Operations.{operation, membership, moved_or_generated, calculation, of_integers, negation}
 use Rattle.sg_calls.specs.Commands.{checked, command_named}
 use Rattle.sg_calls.specs.Answers.{Answer, case_of, reply_unless}
+use Rattle.sg_rows_factorizations.specs.Commands as factorization_commands
+use Rattle.sg_rows_factorizations.specs.declared.command.FactorizationCommand.TheVariants.{OfElement}
+use Rattle.sg_rows_factorizations.specs.declared.element.ElementFact.TheVariants as element
+use Rattle.sg_rows_presentations.specs.Commands as presentation_commands
+use Rattle.sg_rows_presentations.specs.declared.command.PresentationCommand.TheVariants.{OfPresentation}
+use Rattle.sg_rows_presentations.specs.declared.fact.PresentationFact.TheVariants as presentation
 use Rattle.sg_calls.specs.declared.command.Command.{Command}
-use Rattle.sg_calls.specs.declared.command.Command.TheVariants.{Lists, Makers, Facts, Shapes, Ideals, Factorizations, Shared}
-use Rattle.sg_calls.specs.declared.command.Shared.TheVariants.{Intersection, MinimalGenerators}
+use Rattle.sg_calls.specs.declared.command.Command.TheVariants.{Lists, Makers, Facts, Shapes, Ideals, Factorizations, Presentations, Shared}
+use Rattle.sg_calls.specs.declared.command.Shared.TheVariants.{CatenaryDegree, Intersection, MinimalGenerators}
 use Rattle.sg_calls.specs.declared.operator.Operator.{Operator}
 use Rattle.sg_calls.specs.declared.operator.Operator.TheVariants.{Plus, Less, Times, Mod, Eq, Ne, Lt, Le, Gt, Ge, Member}
 
@@ -114,6 +121,11 @@ row_some n (Facts c) args l = fact_some c args l
 row_some n (Shapes c) args l = shape_some c args l
 row_some n (Ideals c) args l = ideal_some c args l
 row_some n (Factorizations c) args l = command_some c args l
+row_some n (Presentations c) args l = presentations.command_some c args l
+row_some n (Shared CatenaryDegree) args l =
+    let of_semigroup = OfPresentation presentation.CatenaryDegree in
+    let of_element = OfElement element.CatenaryDegree in
+    or_else_some (presentation_commands.case_of of_semigroup args) (factorization_commands.case_of of_element args) (presentations.command_some of_semigroup args l) (command_some of_element args l)
 row_some n (Shared Intersection) args l =
     or_else_some (makers.case_of maker.Intersection args) (ideals.case_of (OfTwoIdeals pair.Intersection) args) (maker_some maker.Intersection args l) (ideal_some (OfTwoIdeals pair.Intersection) args l)
 row_some n (Shared MinimalGenerators) args l =

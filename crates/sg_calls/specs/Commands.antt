@@ -1,5 +1,5 @@
 -- The commands: their names, and how many arguments each takes.
-use Rattle.std.specs.Prelude.{ℕ, Bool, nat_eq, codes, List, [], ◌∷◌, Option, Some, None, if◌then◌else◌}
+use Rattle.std.specs.Prelude.{ℕ, Bool, nat_eq, ◌||◌, codes, List, [], ◌∷◌, Option, Some, None, if◌then◌else◌}
 use Rattle.std.specs.Map.{lookup}
 use Rattle.std.specs.Option.{option_map, option_or}
 use Rattle.std.specs.Str.{bytes_eq}
@@ -11,9 +11,10 @@ use Rattle.sg_rows_invariants.specs.Facts as facts
 use Rattle.sg_rows_symmetry.specs.Shapes as shapes
 use Rattle.sg_rows_ideals.specs.Ideals as ideals
 use Rattle.sg_rows_factorizations.specs.Commands as factorizations
+use Rattle.sg_rows_presentations.specs.Commands as presentations
 use Rattle.sg_calls.specs.declared.command.Command.{Command}
-use Rattle.sg_calls.specs.declared.command.Command.TheVariants.{Lists, Makers, Facts, Shapes, Ideals, Factorizations, Shared}
-use Rattle.sg_calls.specs.declared.command.Shared.TheVariants.{Intersection, MinimalGenerators}
+use Rattle.sg_calls.specs.declared.command.Command.TheVariants.{Lists, Makers, Facts, Shapes, Ideals, Factorizations, Presentations, Shared}
+use Rattle.sg_calls.specs.declared.command.Shared.TheVariants.{CatenaryDegree, Intersection, MinimalGenerators}
 use Rattle.sg_calls.specs.declared.command.Folding.TheVariants.{EachValue, ThoseTrue, AllTrue, AnyTrue, CountTrue}
 use Rattle.sg_calls.specs.declared.command.Word.{Word}
 use Rattle.sg_calls.specs.declared.command.Word.TheVariants as word
@@ -21,7 +22,8 @@ use Rattle.sg_calls.specs.declared.command.Word.TheVariants as word
 -- the names that no family has
 abbrev pub own_names : List (List ℕ × Word)
 own_names =
-    (codes "Filtered", word.Arrow ThoseTrue)
+    (codes "CatenaryDegree", word.Command (Shared CatenaryDegree))
+    ∷ (codes "Filtered", word.Arrow ThoseTrue)
     ∷ (codes "ForAll", word.Arrow AllTrue)
     ∷ (codes "ForAny", word.Arrow AnyTrue)
     ∷ (codes "Intersection", word.Command (Shared Intersection))
@@ -39,7 +41,8 @@ family_command name =
     (option_or (option_map Facts (facts.named name))
     (option_or (option_map Shapes (shapes.named name))
     (option_or (option_map Ideals (ideals.named name))
-    (option_map Factorizations (factorizations.named name))))))
+    (option_or (option_map Factorizations (factorizations.named name))
+    (option_map Presentations (presentations.named name)))))))
 
 -- what a name stands for
 unfoldable pub word_named : List ℕ → Option Word
@@ -61,6 +64,8 @@ takes (Facts c) n = facts.takes c n
 takes (Shapes c) n = shapes.takes c n
 takes (Ideals c) n = ideals.takes c n
 takes (Factorizations c) n = factorizations.takes c n
+takes (Presentations c) n = presentations.takes c n
+takes (Shared CatenaryDegree) n = nat_eq n 1 || nat_eq n 2
 takes (Shared Intersection) n = nat_eq n 2
 takes (Shared MinimalGenerators) n = nat_eq n 1
 

@@ -15,10 +15,13 @@ use crate::asks::{one_list_of_generators, two_tables};
 use crate::command::{Command, Shared, command_named};
 use crate::delivering::deliver;
 use crate::families::{on_factorizations, on_facts, on_ideals, on_lists, on_makers, on_shapes};
-use sg_rows::{CallFault, Fault, OfGenerators};
+use crate::presentations::on_presentations;
+use sg_rows::{CallFault, Fault, OfGenerators, one_semigroup};
 use sg_rows_constructors::intersection;
+use sg_rows_factorizations::{ElementFact, FactorizationCommand};
 use sg_rows_ideals::{IdealCommand, IdealFact, Pair};
 use sg_rows_invariants::GeneratorsFact;
+use sg_rows_presentations::{PresentationCommand, PresentationFact};
 use sg_store::Store;
 use sg_value::Value;
 use std::alloc::Global;
@@ -65,7 +68,30 @@ fn of_minimal_generators(
     deliver(alloc, &mut store.ids, told)
 }
 
-/// The commands that semigroups and ideals have in common.
+/// The catenary degree of a semigroup, or else of an element of one.
+fn of_catenary_degree(alloc: Global, store: &mut Store, args: &[Value]) -> Result<Value, CallFault>
+    requires { AllKnownIn (named store.old.ids) args.now }
+    ensures reply { Replies result store.new.ids (shared_case Shared.CatenaryDegree (plain_of_all (named store.old.ids) args.now)) }
+    ensures keeps { Keeps store.old.ids store.new.ids }
+    ensures asks { Asks result (shared_case Shared.CatenaryDegree (plain_of_all (named store.old.ids) args.now)) store.old.attributes store.new.attributes }
+{
+    match one_semigroup(args) {
+        Some(_) => on_presentations(
+            alloc,
+            store,
+            PresentationCommand::OfPresentation(PresentationFact::CatenaryDegree),
+            args,
+        ),
+        None => on_factorizations(
+            alloc,
+            store,
+            FactorizationCommand::OfElement(ElementFact::CatenaryDegree),
+            args,
+        ),
+    }
+}
+
+/// The commands that semigroups have in common with ideals or with elements.
 fn on_shared(
     alloc: Global,
     store: &mut Store,
@@ -76,17 +102,18 @@ fn on_shared(
     requires known { AllKnownIn (named store.old.ids) args.now }
     ensures reply { Replies result store.new.ids (shared_case shared (plain_of_all (named store.old.ids) args.now)) }
     ensures keeps { Keeps store.old.ids store.new.ids }
-    ensures asked { Asked result (early_of (shared_case shared (plain_of_all (named store.old.ids) args.now))) store.old.attributes store.new.attributes }
+    ensures asks { Asks result (shared_case shared (plain_of_all (named store.old.ids) args.now)) store.old.attributes store.new.attributes }
 {
     match shared {
+        Shared::CatenaryDegree => of_catenary_degree(alloc, store, args),
         Shared::Intersection => of_intersection(alloc, store, args),
         Shared::MinimalGenerators => of_minimal_generators(alloc, store, args),
     }
 }
 
 /// What the row of a command answers, within a budget of steps that no row counts yet. Known ids go on to stand for what
-/// they stood for, and each id in the value is known. What the row asks for is asked for in its order, also where the
-/// row refuses.
+/// they stood for, and each id in the value is known. What the row asks for at once is asked for in its order, also where
+/// the row refuses, and what it asks for late once it does not.
 pub fn perform(
     alloc: Global,
     store: &mut Store,
@@ -107,13 +134,14 @@ pub fn perform(
         Command::Shapes(shape) => on_shapes(alloc, store, shape, args),
         Command::Ideals(command) => on_ideals(alloc, store, command, args),
         Command::Factorizations(command) => on_factorizations(alloc, store, command, args),
+        Command::Presentations(command) => on_presentations(alloc, store, command, args),
         Command::Shared(shared) => on_shared(alloc, store, shared, args),
     }
 }
 
 /// What a command answers: its value, or the first refusal that comes once its name and the number of its arguments
 /// are right. Known ids go on to stand for what they stood for, and each id in the value is known. What the row asks for
-/// is asked for in its order, also where the row refuses.
+/// at once is asked for in its order, also where the row refuses, and what it asks for late once it does not.
 pub fn answer(
     alloc: Global,
     store: &mut Store,

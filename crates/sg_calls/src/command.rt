@@ -9,6 +9,7 @@ use sg_rows_factorizations::FactorizationCommand;
 use sg_rows_ideals::IdealCommand;
 use sg_rows_invariants::Fact;
 use sg_rows_lists::ListCommand;
+use sg_rows_presentations::PresentationCommand;
 use sg_rows_symmetry::Shape;
 
 /// A command, by the family that it is of.
@@ -26,13 +27,17 @@ pub enum Command {
     Ideals(IdealCommand),
     /// On factorizations of elements.
     Factorizations(FactorizationCommand),
-    /// On semigroups or on ideals.
+    /// On the minimal presentation of a numerical semigroup, and on all its factorizations.
+    Presentations(PresentationCommand),
+    /// On semigroups or on ideals or elements.
     Shared(Shared),
 }
 
-/// A command that semigroups and ideals have in common.
+/// A command that semigroups have in common with ideals, or with elements.
 #[derive(Clone, Copy)]
 pub enum Shared {
+    /// The catenary degree, of a semigroup or of an element.
+    CatenaryDegree,
     /// The members of both.
     Intersection,
     /// The minimal generators.
@@ -66,7 +71,11 @@ pub enum Word {
 }
 
 /// The names that no family has.
-static OWN_NAMES: [Named<Word>; 8] = [
+static OWN_NAMES: [Named<Word>; 9] = [
+    Named(
+        b"CatenaryDegree",
+        Word::Command(Command::Shared(Shared::CatenaryDegree)),
+    ),
     Named(b"Filtered", Word::Arrow(Folding::ThoseTrue)),
     Named(b"ForAll", Word::Arrow(Folding::AllTrue)),
     Named(b"ForAny", Word::Arrow(Folding::AnyTrue)),
@@ -102,7 +111,10 @@ fn family_command(name: &[u8]) -> Option<Command>
     if let Some(command) = sg_rows_ideals::named(name) {
         return Some(Command::Ideals(command));
     }
-    Some(Command::Factorizations(sg_rows_factorizations::named(name)?))
+    if let Some(command) = sg_rows_factorizations::named(name) {
+        return Some(Command::Factorizations(command));
+    }
+    Some(Command::Presentations(sg_rows_presentations::named(name)?))
 }
 
 /// What this name stands for.
@@ -136,6 +148,8 @@ pub fn takes(command: Command, count: usize) -> bool
         Command::Shapes(shape) => sg_rows_symmetry::takes(shape, count),
         Command::Ideals(command) => sg_rows_ideals::takes(command, count),
         Command::Factorizations(command) => sg_rows_factorizations::takes(command, count),
+        Command::Presentations(command) => sg_rows_presentations::takes(command, count),
+        Command::Shared(Shared::CatenaryDegree) => count == 1 || count == 2,
         Command::Shared(Shared::Intersection) => count == 2,
         Command::Shared(Shared::MinimalGenerators) => count == 1,
     }

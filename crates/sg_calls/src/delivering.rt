@@ -1,20 +1,19 @@
 //! What rows made, as values over a store: the one place where semigroups and ideals get their ids.
 
-ghost use Rattle.std.specs.Prelude.{◌≡◌, ◌≤◌, ◌↔◌, ℕ, IfOk, IsTrue, All, pos, map};
+ghost use Rattle.std.specs.Prelude.{◌≡◌, ◌≤◌, ◌↔◌, ℕ, IfOk, IsTrue, All, min, pos, map};
 ghost use Rattle.sg_lawful.specs.Lawful.{IsLawfulList, IsLawfulIdeal};
 ghost use Rattle.sg_value.specs.Data.{int, list, semigroup, items_of};
 ghost use Rattle.sg_value.specs.Known.{Known, named};
 ghost use Rattle.sg_value.specs.Plain.{AllKnownIn, contents, contents_of_all, plain_of_all};
 ghost use Rattle.sg_store.specs.Interned.{Keeps};
 ghost use Rattle.sg_rows.specs.Made.{AreWithinBits, IsSound};
-ghost use Rattle.sg_rows.specs.Values.{natural_list, weight_of_vectors};
-ghost use Rattle.sg_value.specs.declared.limits.TheConstants.{WEIGHT_LIMIT};
+ghost use Rattle.sg_rows.specs.Values.{natural_list, vector_list, weight_of_vectors, weight_of_lists};
 ghost use Rattle.sg_calls.specs.Delivered.{IsDelivered, IsValueOf, weight_made};
 
-use sg_nat::{Ints, Nats};
+use sg_nat::{Ints, Nats, Rows};
 use sg_rows::{CallFault, Fault, Made, is_heavy};
 use sg_store::Ids;
-use sg_value::{Items, Value};
+use sg_value::{Items, Value, WEIGHT_LIMIT};
 use std::alloc::{AllocError, Global};
 
 /// Each integer as a value.
@@ -56,6 +55,26 @@ fn vector_values(alloc: Global, vectors: &[Nats]) -> Result<Vec<Value>, AllocErr
     let mut values = Vec::with_capacity(alloc, vectors.len())?;
     for vector in vectors {
         values.push(naturals_value(alloc, vector.as_slice())?)?;
+    }
+    Ok(values)
+}
+
+/// A list of vectors as a value.
+fn vectors_value(alloc: Global, vectors: &[Nats]) -> Result<Value, AllocError>
+    requires { All AreWithinBits vectors.now }
+    ensures { IfOk result (λ v. contents v ≡ vector_list vectors.now) }
+{
+    list_value(alloc, vector_values(alloc, vectors)?)
+}
+
+/// Each list of vectors as a value.
+fn vector_list_values(alloc: Global, lists: &[Rows]) -> Result<Vec<Value>, AllocError>
+    requires { All (All AreWithinBits) lists.now }
+    ensures { IfOk result (λ vs. contents_of_all vs.items ≡ items_of (map vector_list lists.now)) }
+{
+    let mut values = Vec::with_capacity(alloc, lists.len())?;
+    for vectors in lists {
+        values.push(vectors_value(alloc, vectors.as_slice())?)?;
     }
     Ok(values)
 }
@@ -110,9 +129,14 @@ fn value_of(alloc: Global, ids: &mut Ids, made: Made) -> Result<Value, AllocErro
         Made::Integer(z) => Ok(Value::Int(z)),
         Made::Natural(n) => Ok(Value::Int(n as i64)),
         Made::Truth(holds) => Ok(Value::Bool(holds)),
+        Made::Ratio(ratio) => Ok(Value::Ratio(ratio)),
+        Made::Fail => Ok(Value::Fail),
         Made::Integers(zs) => list_value(alloc, integer_values(alloc, zs.as_slice())?),
         Made::Naturals(ns) => list_value(alloc, natural_values(alloc, ns.as_slice())?),
         Made::Vectors(vectors) => list_value(alloc, vector_values(alloc, vectors.as_slice())?),
+        Made::VectorLists(lists) => {
+            list_value(alloc, vector_list_values(alloc, lists.as_slice())?)
+        }
         Made::Semigroup(generators) => semigroup_value(ids, generators),
         Made::Semigroups(lists) => {
             list_value(alloc, semigroup_values(alloc, ids, lists.as_slice())?)
@@ -121,13 +145,27 @@ fn value_of(alloc: Global, ids: &mut Ids, made: Made) -> Result<Value, AllocErro
     }
 }
 
-/// Whether vectors are too heavy for a list of lists: each weighs 1 more than it has places.
-fn are_heavy(vectors: &[Nats]) -> bool
-    ensures { IsTrue result ↔ (WEIGHT_LIMIT ≤ weight_of_vectors vectors.now) }
+/// The weight of vectors in a list of lists, and no more than the limit: each weighs 1 more than it has places.
+fn weight_within(vectors: &[Nats]) -> u64
+    ensures { result ≡ min (weight_of_vectors vectors.now) WEIGHT_LIMIT }
 {
     let mut weight = 0u64;
     for vector in vectors {
         weight += vector.as_slice().len() as u64 + 1;
+        if is_heavy(weight) {
+            return WEIGHT_LIMIT;
+        }
+    }
+    weight
+}
+
+/// Whether lists of vectors are too heavy for a list: each weighs 1 more than its vectors.
+fn are_heavy(lists: &[Rows]) -> bool
+    ensures { IsTrue result ↔ (WEIGHT_LIMIT ≤ weight_of_lists lists.now) }
+{
+    let mut weight = 0u64;
+    for vectors in lists {
+        weight += weight_within(vectors.as_slice()) + 1;
         if is_heavy(weight) {
             return true;
         }
@@ -142,7 +180,8 @@ fn is_too_heavy(made: &Made) -> bool
     match made {
         Made::Integers(zs) => is_heavy(zs.as_slice().len() as u64),
         Made::Naturals(ns) => is_heavy(ns.as_slice().len() as u64),
-        Made::Vectors(vectors) => are_heavy(vectors.as_slice()),
+        Made::Vectors(vectors) => is_heavy(weight_within(vectors.as_slice())),
+        Made::VectorLists(lists) => are_heavy(lists.as_slice()),
         Made::Semigroups(lists) => is_heavy(lists.as_slice().len() as u64),
         _ => false,
     }

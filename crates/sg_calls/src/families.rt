@@ -310,6 +310,9 @@ pub fn on_factorizations(
     ensures asked { Asked result (early_of (factorizations.case_of command (plain_of_all (named store.old.ids) args.now))) store.old.attributes store.new.attributes }
 {
     match command {
+        FactorizationCommand::OfGenerators(fact) => {
+            of_generators(alloc, &mut store.ids, fact, args)
+        }
         FactorizationCommand::OfElement(fact) => of_table_and_integer(alloc, store, fact, args),
         FactorizationCommand::OmegaPrimality => of_omega(alloc, store, args),
     }

@@ -19,6 +19,7 @@ pub mod laws;
 mod membership;
 mod operations;
 mod operator;
+mod presentations;
 
 pub use calls::{answer, perform};
 pub use command::{Command, Folding, Shared, Word, check_call, takes, word_named};

@@ -2,10 +2,10 @@
 //! proofs name it.
 
 /// The greatest multiplicity of a table.
-pub const MULTIPLICITY_LIMIT: u64 = 1_048_576;
+pub const MULTIPLICITY_LIMIT: u64 = 4_194_304;
 
 /// Each minimal generator lies below this number, and so does each given generator.
-pub const GENERATOR_LIMIT: u64 = 4_294_967_296;
+pub const GENERATOR_LIMIT: u64 = 1_099_511_627_776;
 
 /// No entry of the Apery list of a table passes this number: an entry is a sum of fewer generators than there are
 /// classes.
@@ -15,7 +15,7 @@ pub const APERY_ENTRY_LIMIT: u64 = MULTIPLICITY_LIMIT * GENERATOR_LIMIT;
 pub const APERY_MODULUS_LIMIT: u64 = 1_048_576;
 
 /// The greatest span of a semigroup whose members, gaps, decompositions or closures are listed.
-pub const SPAN_LIMIT: u64 = 16_777_216;
+pub const SPAN_LIMIT: u64 = 33_554_432;
 
 /// The greatest number of minimal generators of a semigroup whose factorizations are listed.
 pub const NARROW_GENERATORS: u64 = 64;

@@ -3,7 +3,7 @@ use Rattle.std.proofs.Common.{◌≡◌, ℕ, ℤ, List, [], Bool, false, Option
 use Rattle.std.specs.Prelude.{IfSome}
 use Rattle.std.specs.declared.alloc.AllocError.{AllocError}
 use Rattle.sg_value.specs.Known.{Known, named}
-use Rattle.sg_value.specs.Data.{Data, Kind, EachThing, int, truth, text, list, fail, semigroup, ideal}
+use Rattle.sg_value.specs.Data.{Data, Kind, EachThing, int, truth, text, list, ratio, fail, semigroup, ideal}
 use Rattle.sg_value.specs.Plain.{Named, AllKnown, IsKnown, contents, plain}
 use Rattle.sg_value.specs.declared.value.Value.{Value}
 use Rattle.sg_value.specs.declared.value.Value.TheVariants as value
@@ -34,6 +34,7 @@ integer_is (int y) z is = let same : y ≡ z = cc in ap int same
 integer_is (truth b) z is = absurd (cc)
 integer_is (text bs) z is = absurd (cc)
 integer_is (list ds) z is = absurd (cc)
+integer_is (ratio p q) z is = absurd (cc)
 integer_is fail z is = absurd (cc)
 integer_is (semigroup h) z is = absurd (cc)
 integer_is (ideal h) z is = absurd (cc)

@@ -4,7 +4,7 @@ use Rattle.sg_value.specs.Plain.{Things}
 use Rattle.std.specs.Prelude.{if◌then◌else◌}
 use Rattle.std.proofs.Math.Path.{fun_ext}
 use Rattle.std.proofs.lemmas.List.{drop_more}
-use Rattle.sg_value.specs.Data.{Items, truth, int, text, list, fail, semigroup, ideal}
+use Rattle.sg_value.specs.Data.{Items, truth, int, text, list, ratio, fail, semigroup, ideal}
 use Rattle.sg_rows.specs.Kinds.{as_list}
 use Rattle.sg_rows.specs.Order.{Plain}
 use Rattle.sg_calls.specs.Commands.{word_named}
@@ -40,6 +40,7 @@ after_decided (truth false) body others other more = more
 after_decided (int z) body others other more = refl
 after_decided (text bs) body others other more = refl
 after_decided (list ds) body others other more = refl
+after_decided (ratio p q) body others other more = refl
 after_decided fail body others other more = refl
 after_decided (semigroup h) body others other more = refl
 after_decided (ideal h) body others other more = refl

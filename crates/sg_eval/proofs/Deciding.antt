@@ -2,7 +2,7 @@
 use Rattle.std.proofs.Common.{◌≡◌, ◌+◌, ℕ, zero, suc, Bool, true, false, not, Result, Ok, Err, IsErrAnd, refl, ap, sym, ◌∙◌, subst, arith}
 use Rattle.sg_value.specs.Known.{named}
 use Rattle.std.proofs.Math.Path.{fun_ext}
-use Rattle.sg_value.specs.Data.{int, truth, text, list, fail, semigroup, ideal, data_map, EachThing}
+use Rattle.sg_value.specs.Data.{int, truth, text, list, ratio, fail, semigroup, ideal, data_map, EachThing}
 use Rattle.sg_value.specs.Plain.{Named, AllKnown, IsKnown, plain, thing_at}
 use Rattle.sg_value.specs.declared.value.Value.{Value}
 use Rattle.sg_value.specs.declared.value.Value.TheVariants as value
@@ -22,6 +22,7 @@ decided_bind (truth b) f = refl
 decided_bind (int z) f = refl
 decided_bind (text bs) f = refl
 decided_bind (list ds) f = refl
+decided_bind (ratio p q) f = refl
 decided_bind fail f = refl
 decided_bind (semigroup h) f = refl
 decided_bind (ideal h) f = refl

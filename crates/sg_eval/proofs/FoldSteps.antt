@@ -3,7 +3,7 @@ use Rattle.std.proofs.Common.{◌≡◌, ◌⊎◌, ℤ, inl, inr, IsErrAnd, suc
 use Rattle.sg_value.specs.Known.{named}
 use Rattle.std.proofs.Math.Path.{fun_ext}
 use Rattle.std.specs.Prelude.{if◌then◌else◌}
-use Rattle.sg_value.specs.Data.{Data, int, truth, text, list, fail, semigroup, ideal, Items, none, item, data_map, items_map, EachThing, EachThingOfAll, Kind, join}
+use Rattle.sg_value.specs.Data.{Data, int, truth, text, list, ratio, fail, semigroup, ideal, Items, none, item, data_map, items_map, EachThing, EachThingOfAll, Kind, join}
 use Rattle.sg_value.specs.Plain.{Named, AllKnown, AllKnownIn, IsKnown, contents, contents_of_all, plain, plain_of_all, thing_at, Things, Places, Stored}
 use Rattle.sg_value.specs.declared.value.Value.{Value}
 use Rattle.sg_rows.specs.Order.{Plain}
@@ -52,6 +52,7 @@ is_true-map f (int z) = refl
 is_true-map f (truth b) = refl
 is_true-map f (text bs) = refl
 is_true-map f (list ds) = refl
+is_true-map f (ratio p q) = refl
 is_true-map f fail = refl
 is_true-map f (semigroup h) = refl
 is_true-map f (ideal h) = refl
@@ -114,6 +115,7 @@ module _ (f : Plain → Process Plain) where
   true_step d (int z) ds es more = refl
   true_step d (text bs) ds es more = refl
   true_step d (list xs) ds es more = refl
+  true_step d (ratio p q) ds es more = refl
   true_step d fail ds es more = refl
   true_step d (semigroup h) ds es more = refl
   true_step d (ideal h) ds es more = refl
@@ -139,6 +141,7 @@ module _ (f : Plain → Process Plain) where
   count_step d (int z) ds es more = refl
   count_step d (text bs) ds es more = refl
   count_step d (list xs) ds es more = refl
+  count_step d (ratio p q) ds es more = refl
   count_step d fail ds es more = refl
   count_step d (semigroup h) ds es more = refl
   count_step d (ideal h) ds es more = refl
@@ -157,6 +160,7 @@ module _ (f : Plain → Process Plain) where
   all_step d (int z) ds es more = refl
   all_step d (text bs) ds es more = refl
   all_step d (list xs) ds es more = refl
+  all_step d (ratio p q) ds es more = refl
   all_step d fail ds es more = refl
   all_step d (semigroup h) ds es more = refl
   all_step d (ideal h) ds es more = refl
@@ -175,6 +179,7 @@ module _ (f : Plain → Process Plain) where
   any_step d (int z) ds es more = refl
   any_step d (text bs) ds es more = refl
   any_step d (list xs) ds es more = refl
+  any_step d (ratio p q) ds es more = refl
   any_step d fail ds es more = refl
   any_step d (semigroup h) ds es more = refl
   any_step d (ideal h) ds es more = refl

@@ -2,7 +2,7 @@
 use Rattle.std.proofs.Common.{◌≡◌, ◌<◌, ◌≤◌, ℕ, zero, suc, ℤ, pos, negsuc, List, [], ◌∷◌, Option, Some, None, Ok, Err, length, get_or, refl, ap, sym, ◌∙◌, subst, arith}
 use Rattle.sg_value.specs.Known.{named}
 use Rattle.std.specs.Option.{option_map}
-use Rattle.sg_value.specs.Data.{Data, Items, int, truth, text, list, fail, semigroup, ideal, none, item, data_map, items_map, EachThing, EachThingOfAll, Kind}
+use Rattle.sg_value.specs.Data.{Data, Items, int, truth, text, list, ratio, fail, semigroup, ideal, none, item, data_map, items_map, EachThing, EachThingOfAll, Kind}
 use Rattle.sg_value.specs.Plain.{Things, AllKnown, IsKnown, contents, contents_of_all, plain, thing_at, Places, Stored}
 use Rattle.sg_value.specs.declared.value.Value.{Value}
 use Rattle.sg_rows.specs.Kinds.{as_integer, as_list}
@@ -59,6 +59,7 @@ list-map f (int z) = refl
 list-map f (truth b) = refl
 list-map f (text bs) = refl
 list-map f (list ds) = refl
+list-map f (ratio p q) = refl
 list-map f fail = refl
 list-map f (semigroup h) = refl
 list-map f (ideal h) = refl
@@ -78,6 +79,7 @@ entries_known P (list es) ds is each = let same : es ≡ ds = cc in subst (EachT
 entries_known P (int z) ds is each = absurd (cc)
 entries_known P (truth b) ds is each = absurd (cc)
 entries_known P (text bs) ds is each = absurd (cc)
+entries_known P (ratio p q) ds is each = absurd (cc)
 entries_known P fail ds is each = absurd (cc)
 entries_known P (semigroup h) ds is each = absurd (cc)
 entries_known P (ideal h) ds is each = absurd (cc)

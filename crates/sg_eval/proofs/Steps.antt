@@ -2,7 +2,7 @@
 use Rattle.std.proofs.Common.{◌≡◌, ◌<◌, ◌+◌, ℕ, List, [], ◌∷◌, ◌++◌, length, get_or, drop, Bool, true, false, Some, None, Result, Ok, Err, IsErrAnd, Vec, Global, refl, ap, sym, ◌∙◌, subst}
 use Rattle.std.proofs.Math.Path.{fun_ext}
 use Rattle.std.proofs.lemmas.List.{drop_more}
-use Rattle.sg_value.specs.Data.{Data, Items, none, item, truth, int, text, list, fail, semigroup, ideal, Kind, join}
+use Rattle.sg_value.specs.Data.{Data, Items, none, item, truth, int, text, list, ratio, fail, semigroup, ideal, Kind, join}
 use Rattle.sg_value.specs.Plain.{Named, AllKnown, AllKnownIn, plain, plain_of_all, Things}
 use Rattle.sg_value.specs.declared.value.Value.{Value}
 use Rattle.sg_value.proofs.Joins.{join-none, join-one}
@@ -101,6 +101,7 @@ operand_truth ps t ls = assoc (eval ps t) (λ e. decided e (λ b. gives e)) (λ 
     truth_after (int z) = refl
     truth_after (text bs) = refl
     truth_after (list ds) = refl
+    truth_after (ratio p q) = refl
     truth_after fail = refl
     truth_after (semigroup h) = refl
     truth_after (ideal h) = refl
@@ -112,6 +113,7 @@ link_step ps Or t ls (truth false) = operand_truth ps t ls
 link_step ps Or t ls (int z) = refl
 link_step ps Or t ls (text bs) = refl
 link_step ps Or t ls (list ds) = refl
+link_step ps Or t ls (ratio p q) = refl
 link_step ps Or t ls fail = refl
 link_step ps Or t ls (semigroup h) = refl
 link_step ps Or t ls (ideal h) = refl
@@ -120,6 +122,7 @@ link_step ps And t ls (truth false) = refl
 link_step ps And t ls (int z) = refl
 link_step ps And t ls (text bs) = refl
 link_step ps And t ls (list ds) = refl
+link_step ps And t ls (ratio p q) = refl
 link_step ps And t ls fail = refl
 link_step ps And t ls (semigroup h) = refl
 link_step ps And t ls (ideal h) = refl

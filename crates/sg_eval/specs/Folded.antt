@@ -1,7 +1,7 @@
 -- A command with an arrow, entry by entry.
 use Rattle.std.specs.Prelude.{Bool, true, false, not, pos, Option, Some, None, ◌∷◌, if◌then◌else◌}
 use Rattle.sg_value.specs.Plain.{Things}
-use Rattle.sg_value.specs.Data.{Data, int, truth, text, list, fail, semigroup, ideal, Items, none, item, Kind, join}
+use Rattle.sg_value.specs.Data.{Data, int, truth, text, list, ratio, fail, semigroup, ideal, Items, none, item, Kind, join}
 use Rattle.sg_tree.specs.Tree.{Argument, plain as plain_argument, arrow}
 use Rattle.sg_rows.specs.declared.fault.Fault.TheVariants.{WrongType}
 use Rattle.sg_rows.specs.Kinds.{as_list}
@@ -20,6 +20,7 @@ is_true (truth b) = b
 is_true (int z) = false
 is_true (text bs) = false
 is_true (list ds) = false
+is_true (ratio p q) = false
 is_true fail = false
 is_true (semigroup h) = false
 is_true (ideal h) = false

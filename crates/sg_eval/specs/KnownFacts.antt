@@ -4,7 +4,7 @@ use Rattle.sg_value.specs.Known.{Known}
 use Rattle.std.specs.Global.{Global}
 use Rattle.sg_value.specs.declared.value.Value.{Value}
 use Rattle.std.proofs.Props.{props}
-use Rattle.sg_value.specs.Data.{int, truth, text, list, fail, semigroup, ideal, Items, none, item, EachThing, EachThingOfAll}
+use Rattle.sg_value.specs.Data.{int, truth, text, list, ratio, fail, semigroup, ideal, Items, none, item, EachThing, EachThingOfAll}
 use Rattle.sg_value.specs.Plain.{Named, IsKnown, Places, Stored}
 use Rattle.sg_eval.specs.State.{AreKnown, AreKnownIn}
 use Rattle.sg_eval.specs.declared.variable.Variable.{Variable}
@@ -15,6 +15,7 @@ mutual
   each_known-prop names (truth b) = Prim.hlevel props
   each_known-prop names (text bs) = Prim.hlevel props
   each_known-prop names (list ds) = all_known-prop names ds
+  each_known-prop names (ratio p q) = Prim.hlevel props
   each_known-prop names fail = Prim.hlevel props
   each_known-prop names (semigroup i) = Prim.hlevel props
   each_known-prop names (ideal i) = Prim.hlevel props

@@ -1,6 +1,6 @@
 //! Sets of naturals by the least number in each residue class.
 
-ghost use Rattle.std.specs.Prelude.{◌≡◌, ◌+◌, ◌-◌, ◌^◌, ◌<◌, ◌≤◌, ◌⊎◌, ◌↔◌, ℕ, ℤ, ◌≤ℤ◌, length, Contains, IfOk, IsTrue};
+ghost use Rattle.std.specs.Prelude.{◌≡◌, ◌+◌, ◌-◌, ◌*◌, ◌^◌, ◌<◌, ◌≤◌, ◌⊎◌, ◌↔◌, ℕ, ℤ, ◌≤ℤ◌, length, Contains, IfOk, IsTrue};
 ghost use Rattle.sg_classes.specs.Classes.{IsAboveEntry};
 ghost use Rattle.sg_ideal.specs.Classes.{AreClasses, IsEveryClass, IsLeastAbove, IsReach, IsRebased, IsReduced, IsSpread};
 ghost use Rattle.sg_ideal.specs.Value.{IsLeast};
@@ -22,7 +22,7 @@ pub(crate) fn extend(entries: &mut [u64], other: &[u64], by: u64)
     requires entries { AreClasses entries.old }
     requires other { AreClasses other.now }
     requires long { length entries.old ≡ length other.now }
-    requires by { by ≤ 2 ^ 62 }
+    requires by { by < 3 * 2 ^ 62 }
     ensures long { length entries.new ≡ length entries.old }
     ensures classes { AreClasses entries.new }
     ensures same { (n : ℕ) → IsAboveEntry entries.new n ↔ (IsAboveEntry entries.old n ⊎ ((by ≤ n) × IsAboveEntry other.now (n - by))) }
@@ -80,8 +80,8 @@ pub(crate) fn reach(
     count: u64,
 ) -> Result<Vec<u64>, AllocError>
     requires classes { AreClasses entries.now }
-    requires by { by ≤ 2 ^ 33 }
-    requires count { count ≤ 2 ^ 22 }
+    requires by { by < 2 ^ 41 }
+    requires count { count ≤ 3 * 2 ^ 22 }
     ensures { IfOk result (λ list. IsReach entries.now by count list.items) }
 {
     let mut list = Vec::from_slice(alloc, entries)?;

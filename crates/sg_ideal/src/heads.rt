@@ -63,8 +63,8 @@ pub(crate) fn heads(
 
 /// Each number and `base`. TooLarge where one of them is past the limit.
 pub(crate) fn raise(alloc: Global, base: i64, numbers: &[u64]) -> Result<Ints, IdealFault>
-    requires low { neg_ℤ (pos (2 ^ 62)) ≤ℤ base }
-    requires high { base ≤ℤ pos (2 ^ 62) }
+    requires low { neg_ℤ (pos (2 ^ 40)) ≤ℤ base }
+    requires high { base ≤ℤ pos (2 ^ 40) }
     requires small { EachIndex numbers.now (λ k. slice_index numbers.now k ≤ APERY_ENTRY_LIMIT) }
     ensures raised { IfOk result (λ list. list ≡ raised_by base numbers.now) }
     ensures small { IfOk result AreSmall }

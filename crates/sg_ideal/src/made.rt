@@ -43,8 +43,8 @@ pub(crate) fn from_classes(
     entries: &[u64],
 ) -> Result<Ideal, IdealFault>
     requires table { IsClosedTable ambient.now entries.now }
-    requires low { neg_ℤ (pos (2 ^ 34)) ≤ℤ base }
-    requires high { base ≤ℤ pos (2 ^ 34) }
+    requires low { neg_ℤ (pos (2 ^ 42)) ≤ℤ base }
+    requires high { base ≤ℤ pos (2 ^ 42) }
     ensures made { IfOk result (IsIdealOf ambient.now (IsFrom base entries.now)) }
     ensures refused { IfErr result (IsSizeFault ambient.now (IsFrom base entries.now)) }
 {

@@ -21,7 +21,7 @@ pub(crate) fn is_in_cover(table: &Table, h: i64, x: u64) -> bool
     if table.contains(number) {
         return true;
     }
-    2 * number > h && !table.contains(h - number)
+    number > h - number && !table.contains(h - number)
 }
 
 /// Whether a number less the multiplicity lies in the cover.

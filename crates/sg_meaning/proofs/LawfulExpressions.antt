@@ -5,7 +5,7 @@ use Rattle.std.specs.Prelude.{if◌then◌else◌, IfSome, ⊤}
 use Rattle.std.specs.Map.{lookup}
 use Rattle.std.specs.Str.{bytes_eq}
 use Rattle.std.specs.Option.{option_map}
-use Rattle.sg_value.specs.Data.{int, truth as a_truth, text, list, fail, semigroup, ideal, Items, none, item}
+use Rattle.sg_value.specs.Data.{int, truth as a_truth, text, list, ratio, fail, semigroup, ideal, Items, none, item}
 use Rattle.sg_tree.specs.Tree.{Tree, number, quoted, truth, failing, variable, call, display, span, item as item_tree, minus, negation, chain, compare, Trees, no_trees, tree, plain, arrow, Arguments, no_arguments, argument, Links, no_links, link}
 use Rattle.sg_tree.specs.declared.expr.Op.TheVariants.{Or, And, Plus, Less, Times, Mod}
 use Rattle.sg_calls.specs.declared.operator.Operator.TheVariants as operator
@@ -49,6 +49,7 @@ decided_lawful M (a_truth b) f h = h b
 decided_lawful M (int z) f h = tt
 decided_lawful M (text bs) f h = tt
 decided_lawful M (list ds) f h = tt
+decided_lawful M (ratio p q) f h = tt
 decided_lawful M fail f h = tt
 decided_lawful M (semigroup G) f h = tt
 decided_lawful M (ideal G) f h = tt

@@ -4,7 +4,7 @@ use Rattle.sg_value.specs.Plain.{Things}
 use Rattle.std.specs.Map.{lookup}
 use Rattle.std.specs.Str.{bytes_eq}
 use Rattle.std.specs.Option.{option_map}
-use Rattle.sg_value.specs.Data.{int, truth as a_truth, text, list, fail, semigroup, ideal, Items, none, item}
+use Rattle.sg_value.specs.Data.{int, truth as a_truth, text, list, ratio, fail, semigroup, ideal, Items, none, item}
 use Rattle.sg_tree.specs.Tree.{Tree, number, quoted, truth, failing, variable, call, display, span, item as item_tree, minus, negation, chain, compare, Trees, no_trees, tree, plain, arrow, Arguments, no_arguments, argument, Links, no_links, link}
 use Rattle.sg_tree.specs.declared.expr.Op.TheVariants.{Or, And, Plus, Less, Times, Mod}
 use Rattle.sg_tree.specs.declared.expr.Rel.{Rel}
@@ -47,6 +47,7 @@ decided (a_truth b) f = f b
 decided (int z) f = refuses WrongType
 decided (text bs) f = refuses WrongType
 decided (list ds) f = refuses WrongType
+decided (ratio p q) f = refuses WrongType
 decided fail f = refuses WrongType
 decided (semigroup G) f = refuses WrongType
 decided (ideal G) f = refuses WrongType

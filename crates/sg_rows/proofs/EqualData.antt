@@ -2,7 +2,7 @@
 use Rattle.std.proofs.Common.{◌≡◌, ℕ, Bool, true, false, List, [], ◌∷◌, inl, inr, refl, ap, ap₂}
 use Rattle.sg_value.specs.Plain.{Things, RelativeIdeal}
 use Rattle.std.proofs.lemmas.Bool.{true≢false, false≢true}
-use Rattle.sg_value.specs.Data.{int, truth, text, list, fail, semigroup, ideal, Items, none, item}
+use Rattle.sg_value.specs.Data.{int, truth, text, list, ratio, fail, semigroup, ideal, Items, none, item}
 use Rattle.sg_laws_invariants.specs.Decided.{Decided}
 use Rattle.sg_laws_invariants.proofs.Decisions.{decided-or, decided-same, decided-eq, decided-eq_z}
 use Rattle.sg_rows.specs.Order.{Plain}
@@ -48,6 +48,14 @@ mutual
   data-decided (text x) _ = inr (λ e. cc)
   data-decided (list x) (list y) = decided-same (x ≡ y) (list x ≡ list y) (λ e. ap list e) (λ e. cc) (items-decided x y)
   data-decided (list x) _ = inr (λ e. cc)
+  data-decided (ratio p q) (ratio r s) = elim (decided-eq p r) [
+    | inr other ↦ inr (λ e. other cc)
+    | inl first ↦ elim (decided-eq q s) [
+      | inr other ↦ inr (λ e. other cc)
+      | inl rest ↦ inl cc
+    ]
+  ]
+  data-decided (ratio p q) _ = inr (λ e. cc)
   data-decided fail fail = inl refl
   data-decided fail _ = inr (λ e. cc)
   data-decided (semigroup x) (semigroup y) = decided-same (x ≡ y) (semigroup x ≡ semigroup y) (λ e. ap semigroup e) (λ e. cc) (list-decided x y)

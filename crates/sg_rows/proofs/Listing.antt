@@ -7,7 +7,7 @@ use Rattle.sg_value.specs.declared.limits.TheConstants.{WEIGHT_LIMIT}
 use Rattle.sg_value.specs.Plain.{contents, Things, Places}
 use Rattle.sg_value.specs.declared.value.Value.TheVariants as value
 use Rattle.sg_rows.specs.Order.{Delivers}
-use Rattle.sg_rows.specs.Values.{integer_list, natural_list, semigroup_list, vector_list, weight_of_vectors}
+use Rattle.sg_rows.specs.Values.{integer_list, natural_list, semigroup_list, vector_list, vector_lists, weight_of_vectors, weight_of_lists}
 use Rattle.sg_rows.specs.declared.fault.Fault.TheVariants.{TooLarge}
 
 module _ {A : Type 0} {H : Kind → Type 0} (f : A → Data H) (light : (a : A) → weight_of (f a) ≡ 1) (flat : (a : A) → depth_of (f a) ≡ 0) where
@@ -66,6 +66,26 @@ pub delivers_heavy_vectors : (vs : List (List ℕ)) → WEIGHT_LIMIT ≤ weight_
 delivers_heavy_vectors vs many =
     inr ((λ n. n tt), inr ((λ deep. omega (arith, depth-vectors vs, deep)), inl (omega (arith, weight-vectors vs, many), refl)))
 
+-- lists of lists of vectors
+abbrev list_items : List (List (List ℕ)) → Items Things
+list_items ls = items_of (map vector_list ls)
+
+weight-lists : (ls : List (List (List ℕ))) → weight_of_all (list_items ls) ≡ weight_of_lists ls
+weight-lists [] = refl
+weight-lists (vs ∷ ls) = omega (arith, weight-vectors vs, weight-lists ls)
+
+depth-lists : (ls : List (List (List ℕ))) → depth_of_all (list_items ls) ≤ 2
+depth-lists [] = omega arith
+depth-lists (vs ∷ ls) = omega (arith, depth-vectors vs, depth-lists ls)
+
+pub delivers_lists : (ls : List (List (List ℕ))) → weight_of_lists ls < WEIGHT_LIMIT → Delivers {H = Things} (vector_lists ls) (Ok (vector_lists ls))
+delivers_lists ls few =
+    inr ((λ n. n tt), inr ((λ deep. omega (arith, depth-lists ls, deep)), inr ((λ heavy. omega (arith, weight-lists ls, few, heavy)), refl)))
+
+pub delivers_heavy_lists : (ls : List (List (List ℕ))) → WEIGHT_LIMIT ≤ weight_of_lists ls → Delivers {H = Things} (vector_lists ls) (Err TooLarge)
+delivers_heavy_lists ls many =
+    inr ((λ n. n tt), inr ((λ deep. omega (arith, depth-lists ls, deep)), inl (omega (arith, weight-lists ls, many), refl)))
+
 -- what is plain has the same integers
 integers_kept : {H K : Kind → Type 0} (f : (k : Kind) → H k → K k) (zs : List ℤ) → items_map f (items_of (map int zs)) ≡ items_of (map int zs)
 integers_kept f [] = refl
@@ -88,6 +108,13 @@ vectors_kept f (ns ∷ vs) = ap₂ item (plain_naturals f ns) (vectors_kept f vs
 pub plain_vectors : {H K : Kind → Type 0} (f : (k : Kind) → H k → K k) (vs : List (List ℕ)) → data_map f (vector_list vs) ≡ vector_list vs
 plain_vectors f vs = ap list (vectors_kept f vs)
 
+lists_kept : {H K : Kind → Type 0} (f : (k : Kind) → H k → K k) (ls : List (List (List ℕ))) → items_map f (items_of (map vector_list ls)) ≡ items_of (map vector_list ls)
+lists_kept f [] = refl
+lists_kept f (vs ∷ ls) = ap₂ item (plain_vectors f vs) (lists_kept f ls)
+
+pub plain_lists : {H K : Kind → Type 0} (f : (k : Kind) → H k → K k) (ls : List (List (List ℕ))) → data_map f (vector_lists ls) ≡ vector_lists ls
+plain_lists f ls = ap list (lists_kept f ls)
+
 pub integers_known : (P : (k : Kind) → Places k → Type 0) (zs : List ℤ) → EachThingOfAll P (items_of (map int zs))
 integers_known P [] = tt
 integers_known P (z ∷ zs) = (tt, integers_known P zs)
@@ -99,6 +126,10 @@ naturals_known P (n ∷ ns) = (tt, naturals_known P ns)
 pub vectors_known : (P : (k : Kind) → Places k → Type 0) (vs : List (List ℕ)) → EachThingOfAll P (items_of (map natural_list vs))
 vectors_known P [] = tt
 vectors_known P (ns ∷ vs) = (naturals_known P ns, vectors_known P vs)
+
+pub lists_known : (P : (k : Kind) → Places k → Type 0) (ls : List (List (List ℕ))) → EachThingOfAll P (items_of (map vector_list ls))
+lists_known P [] = tt
+lists_known P (vs ∷ ls) = (vectors_known P vs, lists_known P ls)
 
 pub contents-List : (ds : Entries) → contents (value.List ds) ≡ list ds
 contents-List ds = refl

@@ -1,12 +1,12 @@
 -- A row that has one value has one reply.
-use Rattle.std.proofs.Common.{◌≡◌, ◌↔◌, ℕ, ℤ, Bool, true, false, IsTrue, List, Option, Some, None, Result, Ok, inl, inr, refl, ap, sym, ◌∙◌, subst}
+use Rattle.std.proofs.Common.{◌≡◌, ◌↔◌, ℕ, ℤ, Bool, true, false, IsTrue, List, Option, Some, None, Result, Ok, inl, inr, refl, ap, ap₂, sym, ◌∙◌, subst}
 use Rattle.sg_value.specs.Data.{Data, int, truth, semigroup, Kind}
 use Rattle.sg_defs.specs.Membership.{Generates}
 use Rattle.sg_apery.proofs.OneListLemmas.{one-minimal_list}
 use Rattle.sg_rows.specs.Asks.{Asking}
 use Rattle.sg_rows.specs.Order.{Plain, Case, unfit, fits, Checks, passed, check, FirstOf, value_checks, named_checks, Delivers, IsReply, Row}
 use Rattle.sg_rows.specs.Kinds.{given, fitted}
-use Rattle.sg_rows.specs.Values.{an_integer, whether}
+use Rattle.sg_rows.specs.Values.{an_integer, a_quotient, quotient, whether}
 use Rattle.sg_rows.specs.declared.fault.Fault.{Fault}
 
 abbrev pub One : {A : Type 0} → (A → Type 0) → Type 0
@@ -45,6 +45,12 @@ is_one x d e p q = p ∙ sym q
 
 pub integer_one : (P : ℤ → Type 0) → One P → One (an_integer P)
 integer_one P one d e p q = p.1 ∙ (ap int (one p.0 q.0 p.2 q.2) ∙ sym q.1)
+
+-- p and q are determined by P
+pub quotient_one : (P : ℕ → ℕ → Type 0) → ((p q s t : ℕ) → P p q → P s t → (p ≡ s) × (q ≡ t)) → One (a_quotient P)
+quotient_one P one d e h k =
+    let same = one h.0 h.1 k.0 k.1 h.3 k.3 in
+    h.2 ∙ (ap₂ (λ p q. quotient p q) same.0 same.1 ∙ sym k.2)
 
 same_truth : (b c : Bool) (P : Type 0) → (IsTrue b ↔ P) → (IsTrue c ↔ P) → b ≡ c
 same_truth true true P h k = refl

@@ -1,5 +1,5 @@
 -- Rows with lists as values, and with a limit on the span, have a value.
-use Rattle.std.proofs.Common.{◌≡◌, ℕ, ℤ, pos, List, [], ◌∷◌, map, inr, refl}
+use Rattle.std.proofs.Common.{◌≡◌, ℕ, ℤ, pos, List, [], ◌∷◌, map, Option, Some, None, inr, refl}
 use Rattle.std.specs.Prelude.{All}
 use Rattle.std.proofs.lemmas.List.Elements.{All-head, All-tail}
 use Rattle.sg_defs.specs.Membership.{IsNumericalSemigroup}
@@ -7,11 +7,11 @@ use Rattle.sg_apery.specs.Limits.{SPAN_LIMIT}
 use Rattle.sg_laws_invariants.proofs.SpansExist.{wide-decided}
 use Rattle.sg_value.specs.Data.{int, semigroup, items_of}
 use Rattle.sg_rows.specs.Order.{Plain}
-use Rattle.sg_rows.specs.Values.{integer_list, natural_list, semigroup_list, vector_list, integers_with, naturals_with, semigroups_with, vectors_with}
+use Rattle.sg_rows.specs.Values.{integer_list, natural_list, semigroup_list, vector_list, vector_lists, natural_or_fail, a_natural_or_fail, integers_with, naturals_with, semigroups_with, vectors_with, vector_lists_with}
 use Rattle.sg_lawful.specs.Spans.{IsWide}
 use Rattle.sg_rows.specs.Limits.{spanned}
 use Rattle.sg_lawful.specs.Lawful.{IsLawfulList}
-use Rattle.sg_rows.specs.Lawful.{AreLawful}
+use Rattle.sg_rows.specs.Lawful.{AreLawful, IsLawful}
 use Rattle.sg_rows.proofs.SomeValue.{HasValue, HasLawful}
 
 integer_list_lawful : (zs : List ℤ) → AreLawful (items_of (map int zs))
@@ -30,6 +30,17 @@ vector_list_lawful : (vs : List (List ℕ)) → AreLawful (items_of (map natural
 vector_list_lawful [] = tt
 vector_list_lawful (ns ∷ vs) = (natural_list_lawful ns, vector_list_lawful vs)
 
+vector_lists_lawful : (ls : List (List (List ℕ))) → AreLawful (items_of (map vector_list ls))
+vector_lists_lawful [] = tt
+vector_lists_lawful (vs ∷ ls) = (vector_list_lawful vs, vector_lists_lawful ls)
+
+natural_or_fail_lawful : (r : Option ℕ) → IsLawful (natural_or_fail r)
+natural_or_fail_lawful None = tt
+natural_or_fail_lawful (Some n) = tt
+
+pub natural_or_fail_some : (P : Option ℕ → Type 0) → (r : Option ℕ) × P r → HasLawful (a_natural_or_fail P)
+natural_or_fail_some P h = (natural_or_fail h.0, (h.0, refl, h.1), natural_or_fail_lawful h.0)
+
 pub integers_some : (P : List ℤ → Type 0) → (zs : List ℤ) × P zs → HasLawful (integers_with P)
 integers_some P h = (integer_list h.0, (h.0, refl, h.1), integer_list_lawful h.0)
 
@@ -38,6 +49,9 @@ naturals_some P h = (natural_list h.0, (h.0, refl, h.1), natural_list_lawful h.0
 
 pub vectors_some : (P : List (List ℕ) → Type 0) → (vs : List (List ℕ)) × P vs → HasLawful (vectors_with P)
 vectors_some P h = (vector_list h.0, (h.0, refl, h.1), vector_list_lawful h.0)
+
+pub vector_lists_some : (P : List (List (List ℕ)) → Type 0) → (ls : List (List (List ℕ))) × P ls → HasLawful (vector_lists_with P)
+vector_lists_some P h = (vector_lists h.0, (h.0, refl, h.1), vector_lists_lawful h.0)
 
 pub natural_list_some : (ns : List ℕ) → HasLawful (λ d. d ≡ natural_list ns)
 natural_list_some ns = (natural_list ns, refl, natural_list_lawful ns)

@@ -1,6 +1,6 @@
 -- Where the conditions of a row are decided in turn, and a value is there where none of them holds, there is a reply.
-use Rattle.std.proofs.Common.{◌≡◌, ℕ, ℤ, ◌<◌, ◌^◌, List, [], ◌∷◌, Option, Some, None, Ok, Err, inl, inr, refl}
-use Rattle.std.specs.Prelude.{pos, IfSome, FitsSigned, ⊤}
+use Rattle.std.proofs.Common.{◌≡◌, ℕ, ℤ, ◌<◌, ◌^◌, Bool, true, false, List, [], ◌∷◌, Option, Some, None, Ok, Err, inl, inr, refl}
+use Rattle.std.specs.Prelude.{pos, IfSome, FitsSigned, ⊤, if◌then◌else◌, ◌==◌}
 use Rattle.std.specs.Int.{w64}
 use lib.Signed.{mag}
 use Rattle.sg_defs.specs.Membership.{Generates}
@@ -8,12 +8,12 @@ use Rattle.sg_apery.specs.Fit.{IsFit}
 use Rattle.sg_laws_invariants.specs.Decided.{Decided}
 use Rattle.sg_laws_invariants.proofs.Decisions.{decided-not, decided-lt, decided-same, truth-exists}
 use Rattle.sg_laws_invariants.proofs.SemigroupDecisions.{fit_list-or_none, unfit-decided}
-use Rattle.sg_value.specs.Data.{int, truth, semigroup, weight_of, depth_of}
+use Rattle.sg_value.specs.Data.{int, truth, ratio, semigroup, weight_of, depth_of}
 use Rattle.sg_value.specs.declared.limits.TheConstants.{NESTING_LIMIT, WEIGHT_LIMIT}
 use Rattle.sg_rows.specs.Asks.{Asking}
 use Rattle.sg_rows.specs.Order.{Plain, Reply, Case, unfit, fits, Checks, passed, check, FirstOf, InBits, named_checks, value_checks, Delivers, IsReply, Row}
 use Rattle.sg_rows.specs.Kinds.{given, fitted}
-use Rattle.sg_rows.specs.Values.{answers, an_integer, a_natural, an_entry, whether, generates}
+use Rattle.sg_rows.specs.Values.{answers, an_integer, a_natural, a_quotient, an_entry, quotient, whether, generates}
 use Rattle.sg_rows.specs.Lawful.{IsLawful, SomeReply}
 use Rattle.sg_rows.specs.declared.fault.Fault.TheVariants.{WrongType}
 
@@ -87,6 +87,13 @@ integer_some P h = (int h.0, (h.0, refl, h.1), tt)
 
 pub natural_some : (P : ℕ → Type 0) → (n : ℕ) × P n → HasLawful (a_natural P)
 natural_some P h = (int (pos h.0), (h.0, refl, h.1), tt)
+
+quotient_lawful : (integral : Bool) (p q : ℕ) → IsLawful (if integral then int (pos p) else ratio p q)
+quotient_lawful true p q = tt
+quotient_lawful false p q = tt
+
+pub quotient_some : (P : ℕ → ℕ → Type 0) → (p q : ℕ) × P p q → HasLawful (a_quotient P)
+quotient_some P h = (quotient h.0 h.1, (h.0, h.1, refl, h.2), quotient_lawful (h.1 == 1) h.0 h.1)
 
 pub whether_some : (P : Type 0) → Decided P → HasLawful (whether P)
 whether_some P decided = let t = truth-exists P decided in (truth t.0, (t.0, refl, t.1), tt)

@@ -4,11 +4,11 @@ use Rattle.std.specs.Prelude.{OnOk}
 use Rattle.sg_value.specs.Data.{int}
 use Rattle.sg_value.specs.declared.limits.TheConstants.{WEIGHT_LIMIT}
 use Rattle.sg_rows.specs.Order.{Plain, Row, Passes}
-use Rattle.sg_rows.specs.Values.{answers, a_natural, natural_list, naturals_with}
+use Rattle.sg_rows.specs.Values.{answers, a_natural, a_quotient, quotient, natural_list, naturals_with}
 use Rattle.sg_lawful.specs.Spans.{IsShort}
 use Rattle.sg_rows.specs.Limits.{spanned}
 pub use Rattle.sg_rows.specs.Made.{AreWithinBits}
-use Rattle.sg_rows.specs.Made.{Tells}
+use Rattle.sg_rows.specs.Made.{IsSound, Tells, datum}
 use Rattle.sg_rows.specs.declared.made.Made.TheVariants.{Natural, Naturals}
 use Rattle.sg_rows.specs.declared.fault.Fault.TheVariants.{TooLarge}
 use Rattle.sg_rows.specs.declared.fault.CallFault.TheVariants.{Script, Memory}
@@ -36,6 +36,9 @@ tells_natural P n small h = (record { passes = answers_pass (a_natural P); value
 
 pub tells_this_natural : (n m : ℕ) → n < 2 ^ 63 → n ≡ m → Tells (Ok (Natural n)) (answers (λ d. d ≡ int (pos m)))
 tells_this_natural n m small e = (record { passes = answers_pass (λ d. d ≡ int (pos m)); value = ap (λ k. int (pos k)) e }, small)
+
+pub tells_quotient : (P : ℕ → ℕ → Type 0) (p q : ℕ) (m : Made) → datum m ≡ quotient p q → IsSound m → P p q → Tells (Ok m) (answers (a_quotient P))
+tells_quotient P p q m is sound h = (record { passes = answers_pass (a_quotient P); value = (p, q, is, h) }, sound)
 
 pub tells_naturals : (P : List ℕ → Type 0) (ns : List ℕ) → AreWithinBits ns → P ns → Tells (Ok (Naturals ns)) (answers (naturals_with P))
 tells_naturals P ns small h = (record { passes = answers_pass (naturals_with P); value = (ns, refl, h) }, small)

@@ -1,10 +1,12 @@
 -- What rows ask for of the semigroups among their arguments.
 use Rattle.std.specs.Prelude.{ℕ, List, [], ◌∷◌, ◌++◌, map}
 
--- what is kept of a semigroup once it was asked for: its Apery table, its pseudo-Frobenius numbers
+-- what is kept of a semigroup once it was asked for: its Apery table, its pseudo-Frobenius numbers, its canonical minimal
+-- presentation
 pub data Attribute : Type 0 where
   apery_table : Attribute
   pseudo_frobenius : Attribute
+  presentation : Attribute
 
 -- an attribute of the semigroup with these minimal generators was asked for
 abbrev pub Asking : Type 0

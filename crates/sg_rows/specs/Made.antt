@@ -1,22 +1,25 @@
 -- What rows make, before it is in any store, and what rows tell.
 use Rattle.std.specs.Prelude.{◌<◌, ◌^◌, ℕ, pos, List, All, EachIndex, slice_index, Result, Ok, Err, ⊤}
 use Rattle.sg_lawful.specs.Lawful.{IsLawfulList, IsLawfulIdeal}
-use Rattle.sg_value.specs.Data.{int, truth, semigroup, ideal}
+use Rattle.sg_value.specs.Data.{int, truth, ratio, fail, semigroup, ideal}
 use Rattle.sg_rows.specs.Order.{Plain, Row, IsReplyOf, Passes}
-use Rattle.sg_rows.specs.Values.{integer_list, natural_list, semigroup_list, vector_list}
+use Rattle.sg_rows.specs.Values.{integer_list, natural_list, semigroup_list, vector_list, vector_lists}
 use Rattle.sg_rows.specs.declared.fault.CallFault.{CallFault}
 use Rattle.sg_rows.specs.declared.fault.CallFault.TheVariants.{Script, Memory}
 use Rattle.sg_rows.specs.declared.made.Made.{Made}
-use Rattle.sg_rows.specs.declared.made.Made.TheVariants.{Integer, Natural, Truth, Integers, Naturals, Vectors, Semigroup, Semigroups, Ideal}
+use Rattle.sg_rows.specs.declared.made.Made.TheVariants.{Integer, Natural, Truth, Ratio, Fail, Integers, Naturals, Vectors, VectorLists, Semigroup, Semigroups, Ideal}
 
 -- the plain value that was made
 abbrev pub datum : Made → Plain
 datum (Integer z) = int z
 datum (Natural n) = int (pos n)
 datum (Truth b) = truth b
+datum (Ratio r) = ratio r.num r.den
+datum Fail = fail
 datum (Integers zs) = integer_list zs
 datum (Naturals ns) = natural_list ns
 datum (Vectors vs) = vector_list vs
+datum (VectorLists ls) = vector_lists ls
 datum (Semigroup G) = semigroup G
 datum (Semigroups L) = semigroup_list L
 datum (Ideal G I) = ideal (record { ambient = G; generators = I })
@@ -30,6 +33,7 @@ abbrev pub IsSound : Made → Type 0
 IsSound (Natural n) = n < 2 ^ 63
 IsSound (Naturals ns) = AreWithinBits ns
 IsSound (Vectors vs) = All AreWithinBits vs
+IsSound (VectorLists ls) = All (All AreWithinBits) ls
 IsSound (Semigroup G) = IsLawfulList G
 IsSound (Semigroups L) = All IsLawfulList L
 IsSound (Ideal G I) = IsLawfulIdeal G I

@@ -24,7 +24,7 @@ pub use kinds::{
     two_semigroups,
 };
 pub use limits::{is_heavy, is_wide};
-pub use made::{Made, integer};
+pub use made::{Made, integer, quotient};
 pub use names::{Named, find};
 pub use told::{
     OfGenerators, OfIntegers, OfNumbers, OfTable, OfTableAndInteger, OfTableAndNumbers,

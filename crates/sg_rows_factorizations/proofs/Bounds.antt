@@ -1,12 +1,15 @@
--- Factorizations, their lengths and deltas, catenary degrees and omega primalities are far below the limit of 64 bits.
-use Rattle.std.proofs.Common.{◌+◌, ◌-◌, ◌<◌, ◌≤◌, ◌^◌, ℕ, List, [], ◌∷◌, sum, inl, inr, refl, arith}
-use Rattle.std.specs.Prelude.{ℤ, pos, negsuc, All, FitsSigned}
+-- Factorizations, their lengths and deltas, elasticities, catenary degrees and omega primalities are far below the limit of
+-- 64 bits.
+use Rattle.std.proofs.Common.{◌+◌, ◌-◌, ◌/◌, ◌<◌, ◌≤◌, ◌^◌, ℕ, List, [], ◌∷◌, length, get_or, sum, inl, inr, refl, arith}
+use Rattle.std.specs.Prelude.{ℤ, pos, negsuc, All, FitsSigned, ⊤}
 use Rattle.std.specs.Int.{w64}
+use Rattle.std.proofs.Math.Nat.{div-le_self}
 use Rattle.std.proofs.lemmas.Bool.{cases_lt}
 use Rattle.sg_defs.specs.Listings.{Lists}
 use Rattle.sg_defs.specs.Membership.{IsFactorization, IsMinimal, IsNumericalSemigroup}
 use Rattle.sg_nonunique.specs.Catenary.{IsCatenaryOf}
 use Rattle.sg_nonunique.specs.Deltas.{IsDelta}
+use Rattle.sg_nonunique.specs.Elasticity.{IsElasticity}
 use Rattle.sg_nonunique.specs.Factorizations.{AreFactorizations, IsIntegerFactorization, IsLengthIn}
 use Rattle.sg_nonunique.specs.Omega.{IsOmega, IsOmegaOfSemigroup}
 use Rattle.sg_apery.specs.Fit.{IsFit, IsSpan}
@@ -14,7 +17,10 @@ use Rattle.sg_apery.proofs.GeneratorLemmas.{contains-place, place-contains}
 use Rattle.sg_laws_finite.proofs.ElementLemmas.{all-from_contained}
 use Rattle.sg_laws_finite.proofs.PartialLemmas.{place-below_sum}
 use Rattle.sg_laws_families.proofs.DistanceLemmas.{distance-le}
+use Rattle.sg_laws_families.proofs.GcdLemmas.{gcd-of_closed}
+use Rattle.sg_laws_factorizations.proofs.OneAnswer.{one-elasticity}
 use Rattle.sg_factor.proofs.BoundLemmas.{value-at_least}
+use Rattle.sg_factor.proofs.ElasticityLemmas.{is_elasticity}
 use Rattle.sg_omega.proofs.MinimalLemmas.{serves-iff}
 use Rattle.sg_omega.proofs.PrimalityLemmas.{rest-within}
 use Rattle.sg_omega.specs.declared.limits.TheConstants.{OMEGA_LIMIT}
@@ -63,6 +69,17 @@ module _ (G : List ℕ) (x : ℤ) (s : IsNumericalSemigroup G) (fits : FitsSigne
         let second = length-small b q in
         (b ∷ [], (p, distance-le a b (2 ^ 63 - 1) (omega (arith, first)) (omega (arith, second)), (q, refl)))))
   ]
+
+-- the numerator of the elasticity is no more than the greatest generator
+pub elasticity-small : (G : List ℕ) → IsNumericalSemigroup G → IsMinimal G → IsFit G → (p q : ℕ) → IsElasticity G p q → p < 2 ^ 63
+elasticity-small G s m fit p q h =
+    let f = get_or G 0 0 in
+    let l = get_or G (length G - 1) 0 in
+    let g = gcd-of_closed (λ _. ⊤) (λ _ _ _ _ _. tt) f l tt tt in
+    let same = one-elasticity G p q (l / g.0) (f / g.0) h (is_elasticity G s m.ascending g.0 g.2) in
+    let below = div-le_self l g.0 in
+    let small = fit.small (length G - 1) (omega (arith, s.not_empty)) in
+    omega (arith, same.0, below, small)
 
 -- a minimal vector above n has its value within n and the span
 omega-within : (G : List ℕ) → IsNumericalSemigroup G → IsMinimal G → (s : ℕ) → IsSpan G s → (n N : ℕ) → IsOmega G n N → N ≤ n + s

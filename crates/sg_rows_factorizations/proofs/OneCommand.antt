@@ -4,9 +4,10 @@ use Rattle.std.specs.Prelude.{ℤ, pos, negsuc}
 use Rattle.sg_defs.specs.Listings.{Lists}
 use Rattle.sg_nonunique.specs.Catenary.{IsCatenaryOf}
 use Rattle.sg_nonunique.specs.Deltas.{IsDelta}
+use Rattle.sg_nonunique.specs.Elasticity.{IsElasticity}
 use Rattle.sg_nonunique.specs.Factorizations.{AreFactorizations, IsIntegerFactorization, IsLengthIn}
 use Rattle.sg_nonunique.specs.Omega.{IsOmegaOfSemigroup}
-use Rattle.sg_laws_factorizations.proofs.OneAnswer.{one-factorizations, one-lengths, one-deltas, one-catenary_of, one-omega, one-semigroup_omega}
+use Rattle.sg_laws_factorizations.proofs.OneAnswer.{one-factorizations, one-lengths, one-deltas, one-catenary_of, one-elasticity, one-omega, one-semigroup_omega}
 use Rattle.sg_value.specs.Data.{Items}
 use Rattle.sg_value.specs.Plain.{Things}
 use Rattle.sg_rows.specs.Asks.{apery_table}
@@ -14,11 +15,13 @@ use Rattle.sg_rows.specs.Forms.{of_semigroup, of_semigroup_and_integer}
 use Rattle.sg_rows.proofs.Alternating.{or_else_one}
 use Rattle.sg_rows.proofs.FormLaws.{of_semigroup_one, of_semigroup_and_integer_one}
 use Rattle.sg_rows.proofs.OneListed.{natural_one, naturals_one, vectors_one}
-use Rattle.sg_rows.proofs.OneValue.{One, OneValue}
+use Rattle.sg_rows.proofs.OneValue.{One, OneValue, quotient_one}
 use Rattle.sg_rows_factorizations.specs.Commands.{case_of}
-use Rattle.sg_rows_factorizations.specs.Elements.{IsIntegerOmega, element_row, semigroup_omega_row}
+use Rattle.sg_rows_factorizations.specs.Elements.{IsIntegerOmega, element_row, lengths_of_all_row, semigroup_omega_row}
+use Rattle.sg_rows_factorizations.specs.declared.all_lengths.AllLengths.{AllLengths}
+use Rattle.sg_rows_factorizations.specs.declared.all_lengths.AllLengths.TheVariants.{Elasticity}
 use Rattle.sg_rows_factorizations.specs.declared.command.FactorizationCommand.{FactorizationCommand}
-use Rattle.sg_rows_factorizations.specs.declared.command.FactorizationCommand.TheVariants.{OfElement, OmegaPrimality}
+use Rattle.sg_rows_factorizations.specs.declared.command.FactorizationCommand.TheVariants.{OfGenerators, OfElement, OmegaPrimality}
 use Rattle.sg_rows_factorizations.specs.declared.element.ElementFact.{ElementFact}
 use Rattle.sg_rows_factorizations.specs.declared.element.ElementFact.TheVariants as element
 
@@ -36,7 +39,11 @@ element_one element.OmegaPrimality G x = natural_one (IsIntegerOmega G x) (one-i
 semigroup_omega_one : (G : List ℕ) → One (semigroup_omega_row G).value
 semigroup_omega_one G = natural_one (IsOmegaOfSemigroup G) (one-semigroup_omega G)
 
+lengths_of_all_one : (f : AllLengths) (G : List ℕ) → One (lengths_of_all_row f G).value
+lengths_of_all_one Elasticity G = quotient_one (IsElasticity G) (one-elasticity G)
+
 pub command_one : (c : FactorizationCommand) (args : Items Things) → OneValue (case_of c args)
+command_one (OfGenerators f) = of_semigroup_one [] (lengths_of_all_row f) (lengths_of_all_one f)
 command_one (OfElement f) = of_semigroup_and_integer_one (apery_table ∷ []) (element_row f) (element_one f)
 command_one OmegaPrimality = λ args.
     let of_member = element_row element.OmegaPrimality in

@@ -5,6 +5,7 @@ use Rattle.sg_defs.specs.Listings.{Lists}
 use Rattle.sg_defs.specs.Membership.{AtNatural, IsIntegerMember, IsNumericalSemigroup}
 use Rattle.sg_nonunique.specs.Catenary.{IsCatenaryOf}
 use Rattle.sg_nonunique.specs.Deltas.{IsDelta}
+use Rattle.sg_nonunique.specs.Elasticity.{IsElasticity}
 use Rattle.sg_nonunique.specs.Factorizations.{AreFactorizations, IsIntegerFactorization, IsLengthIn}
 use Rattle.sg_nonunique.specs.Omega.{IsOmegaOfSemigroup}
 use Rattle.sg_apery.specs.Fit.{IsNarrow}
@@ -16,7 +17,7 @@ use Rattle.sg_laws_invariants.proofs.Decisions.{decided-and, decided-le, decided
 use Rattle.sg_laws_invariants.proofs.InvariantsExist.{integer_member-decided}
 use Rattle.sg_laws_invariants.proofs.SpansExist.{span-exists, span-one}
 use Rattle.sg_laws_factorizations.proofs.ElementsSettled.{integer_factorizations-listed, counts-decided, integer_lengths-listed, integer_deltas-listed, integer_catenary-exists}
-use Rattle.sg_laws_factorizations.proofs.SemigroupsSettled.{omega-settled, semigroup_omega-settled}
+use Rattle.sg_laws_factorizations.proofs.SemigroupsSettled.{elasticity-settled, omega-settled, semigroup_omega-settled}
 use Rattle.sg_lawful.specs.Lawful.{IsLawfulList}
 use Rattle.sg_value.specs.Data.{Items}
 use Rattle.sg_value.specs.Plain.{Things}
@@ -24,14 +25,17 @@ use Rattle.sg_rows.specs.Asks.{apery_table}
 use Rattle.sg_rows.specs.Forms.{of_semigroup, of_semigroup_and_integer}
 use Rattle.sg_rows.specs.Lawful.{AreLawful}
 use Rattle.sg_rows.specs.Order.{Plain}
+use Rattle.sg_rows.specs.Values.{a_quotient}
 use Rattle.sg_rows.proofs.Alternating.{or_else_some}
 use Rattle.sg_rows.proofs.FormLaws.{of_semigroup_some, of_semigroup_and_integer_some}
 use Rattle.sg_rows.proofs.SomeListed.{naturals_some, vectors_some}
-use Rattle.sg_rows.proofs.SomeValue.{HasLawful, HasValue, SomeValue, natural_some}
+use Rattle.sg_rows.proofs.SomeValue.{HasLawful, HasValue, SomeValue, answers_some, natural_some, quotient_some}
 use Rattle.sg_rows_factorizations.specs.Commands.{case_of}
-use Rattle.sg_rows_factorizations.specs.Elements.{IsBroad, IsIntegerOmega, IsPastOmega, counted, element_row, measured, omega_row, semigroup_omega_row}
+use Rattle.sg_rows_factorizations.specs.Elements.{IsBroad, IsIntegerOmega, IsPastOmega, counted, element_row, lengths_of_all_row, measured, omega_row, semigroup_omega_row}
+use Rattle.sg_rows_factorizations.specs.declared.all_lengths.AllLengths.{AllLengths}
+use Rattle.sg_rows_factorizations.specs.declared.all_lengths.AllLengths.TheVariants.{Elasticity}
 use Rattle.sg_rows_factorizations.specs.declared.command.FactorizationCommand.{FactorizationCommand}
-use Rattle.sg_rows_factorizations.specs.declared.command.FactorizationCommand.TheVariants.{OfElement, OmegaPrimality}
+use Rattle.sg_rows_factorizations.specs.declared.command.FactorizationCommand.TheVariants.{OfGenerators, OfElement, OmegaPrimality}
 use Rattle.sg_rows_factorizations.specs.declared.element.ElementFact.{ElementFact}
 use Rattle.sg_rows_factorizations.specs.declared.element.ElementFact.TheVariants as element
 
@@ -113,7 +117,11 @@ element_some element.Lengths G x g =
     measured_some G x g.semigroup _ (naturals_some P (integer_lengths-listed G x g.semigroup))
 element_some element.OmegaPrimality G x g = omega_some G x g.semigroup
 
+lengths_of_all_some : (f : AllLengths) (G : List ℕ) → IsLawfulList G → HasValue (lengths_of_all_row f G)
+lengths_of_all_some Elasticity G g = answers_some (a_quotient (IsElasticity G)) (quotient_some (IsElasticity G) (elasticity-settled G g.semigroup g.minimal))
+
 pub command_some : (c : FactorizationCommand) (args : Items Things) → AreLawful args → SomeValue (case_of c args)
+command_some (OfGenerators f) = of_semigroup_some [] (lengths_of_all_row f) (lengths_of_all_some f)
 command_some (OfElement f) = of_semigroup_and_integer_some (apery_table ∷ []) (element_row f) (element_some f)
 command_some OmegaPrimality = λ args l.
     let of_member = element_row element.OmegaPrimality in

@@ -8,17 +8,18 @@ use Rattle.sg_rows.specs.Alternatives.{or_else}
 use Rattle.sg_rows.specs.Asks.{apery_table}
 use Rattle.sg_rows.specs.Forms.{of_semigroup, of_semigroup_and_integer}
 use Rattle.sg_rows.specs.Order.{Case}
-use Rattle.sg_rows_factorizations.specs.Elements.{element_row, semigroup_omega_row}
+use Rattle.sg_rows_factorizations.specs.Elements.{element_row, lengths_of_all_row, semigroup_omega_row}
+use Rattle.sg_rows_factorizations.specs.declared.all_lengths.AllLengths.TheVariants.{Elasticity}
 use Rattle.sg_rows_factorizations.specs.declared.command.FactorizationCommand.{FactorizationCommand}
-use Rattle.sg_rows_factorizations.specs.declared.command.FactorizationCommand.TheVariants.{OfElement, OmegaPrimality}
+use Rattle.sg_rows_factorizations.specs.declared.command.FactorizationCommand.TheVariants.{OfGenerators, OfElement, OmegaPrimality}
 use Rattle.sg_rows_factorizations.specs.declared.element.ElementFact.TheVariants as element
 
 -- ---- names
 
 abbrev pub names : List (List ℕ × FactorizationCommand)
 names =
-    (codes "CatenaryDegree", OfElement element.CatenaryDegree)
-    ∷ (codes "DeltaSet", OfElement element.DeltaSet)
+    (codes "DeltaSet", OfElement element.DeltaSet)
+    ∷ (codes "Elasticity", OfGenerators Elasticity)
     ∷ (codes "Factorizations", OfElement element.Factorizations)
     ∷ (codes "LengthsOfFactorizations", OfElement element.Lengths)
     ∷ (codes "OmegaPrimality", OmegaPrimality)
@@ -30,6 +31,7 @@ named name = lookup (bytes_eq name) names
 
 -- whether a command takes so many arguments
 abbrev pub takes : FactorizationCommand → ℕ → Bool
+takes (OfGenerators f) n = nat_eq n 1
 takes (OfElement f) n = nat_eq n 2
 takes OmegaPrimality n = nat_eq n 1 || nat_eq n 2
 
@@ -37,5 +39,6 @@ takes OmegaPrimality n = nat_eq n 1 || nat_eq n 2
 
 -- what the row of a command says of arguments
 abbrev pub case_of : FactorizationCommand → Items Things → Case
+case_of (OfGenerators f) args = of_semigroup [] args (lengths_of_all_row f)
 case_of (OfElement f) args = of_semigroup_and_integer (apery_table ∷ []) args (element_row f)
 case_of OmegaPrimality args = or_else (of_semigroup (apery_table ∷ []) args semigroup_omega_row) (of_semigroup_and_integer (apery_table ∷ []) args (element_row element.OmegaPrimality))

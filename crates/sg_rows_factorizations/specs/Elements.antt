@@ -5,13 +5,16 @@ use Rattle.sg_defs.specs.Membership.{AtNatural, IsIntegerMember}
 use Rattle.sg_nonunique.specs.Catenary.{IsCatenaryOf}
 use Rattle.sg_nonunique.specs.Counts.{Exceeds}
 use Rattle.sg_nonunique.specs.Deltas.{IsDelta}
+use Rattle.sg_nonunique.specs.Elasticity.{IsElasticity}
 use Rattle.sg_nonunique.specs.Factorizations.{AreFactorizations, IsIntegerFactorization, IsLengthIn}
 use Rattle.sg_nonunique.specs.Omega.{IsOmega, IsOmegaOfSemigroup}
 use Rattle.sg_apery.specs.Fit.{IsNarrow, IsSpan}
 use Rattle.sg_factor.specs.declared.limits.TheConstants.{CATENARY_LIMIT, FACTORIZATION_LIMIT, LENGTH_LIMIT}
 use Rattle.sg_omega.specs.declared.limits.TheConstants.{OMEGA_LIMIT}
 use Rattle.sg_rows.specs.Order.{Plain, Row}
-use Rattle.sg_rows.specs.Values.{answers, a_natural, naturals_with, vectors_with}
+use Rattle.sg_rows.specs.Values.{answers, a_natural, a_quotient, naturals_with, vectors_with}
+use Rattle.sg_rows_factorizations.specs.declared.all_lengths.AllLengths.{AllLengths}
+use Rattle.sg_rows_factorizations.specs.declared.all_lengths.AllLengths.TheVariants.{Elasticity}
 use Rattle.sg_rows_factorizations.specs.declared.element.ElementFact.{ElementFact}
 use Rattle.sg_rows_factorizations.specs.declared.element.ElementFact.TheVariants.{CatenaryDegree, DeltaSet, Factorizations, Lengths, OmegaPrimality}
 
@@ -66,6 +69,12 @@ element_row Lengths G x = lengths_row G x
 element_row OmegaPrimality G x = omega_row G x
 
 -- ---- of the semigroup
+
+abbrev pub elasticity_row : List ℕ → Row
+elasticity_row G = answers (a_quotient (IsElasticity G))
+
+abbrev pub lengths_of_all_row : AllLengths → List ℕ → Row
+lengths_of_all_row Elasticity G = elasticity_row G
 
 -- of the greatest generator and the span
 abbrev pub semigroup_omega_row : List ℕ → Row

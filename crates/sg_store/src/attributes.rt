@@ -2,11 +2,12 @@
 
 ghost use Rattle.std.specs.Prelude.{◌≡◌, IfOk, OnOk, OnErr};
 ghost use Rattle.sg_lawful.specs.Lawful.{IsLawfulList};
-ghost use Rattle.sg_store.specs.Attributes.{IsTableOf, AreNumbersOf, nothing_asked, table_answered, numbers_answered, IsAfterNoTable, IsAfterNoNumbers, AreCounts};
+ghost use Rattle.sg_store.specs.Attributes.{IsTableOf, AreNumbersOf, IsPresentationOf, nothing_asked, table_answered, numbers_answered, presentation_answered, IsAfterNoTable, IsAfterNoNumbers, IsAfterNoPresentation, AreCounts};
 
-use crate::makers::{MakesPseudo, MakesTables};
-use crate::questions::{PseudoQ, TableQ};
+use crate::makers::{MakesPresentations, MakesPseudo, MakesTables};
+use crate::questions::{PresentationQ, PseudoQ, TableQ};
 use sg_apery::Table;
+use sg_betti::Presentation;
 use sg_memo::{Kept, Memo};
 use sg_nat::{Ints, Nats};
 use std::alloc::{AllocError, Global};
@@ -20,14 +21,17 @@ pub struct Counts {
     pub tables_made: u64,
     pub pseudo_asked: u64,
     pub pseudo_made: u64,
+    pub presentations_asked: u64,
+    pub presentations_made: u64,
 }
 
-/// Tables and pseudo-Frobenius numbers by the minimal generators of their semigroups. Contracts see what each memo keeps
-/// and counts.
+/// Tables, pseudo-Frobenius numbers and canonical minimal presentations by the minimal generators of their semigroups.
+/// Contracts see what each memo keeps and counts.
 #[derive(Drop)]
 pub struct Attributes {
     tables: Memo<TableQ, MakesTables>,
     pseudo: Memo<PseudoQ, MakesPseudo>,
+    presentations: Memo<PresentationQ, MakesPresentations>,
 }
 
 impl Model for Attributes {
@@ -36,7 +40,7 @@ impl Model for Attributes {
 
     ghost Value = { Attributes };
 
-    ghost view = { λ a. record { tables = a.tables; pseudo = a.pseudo } };
+    ghost view = { λ a. record { tables = a.tables; pseudo = a.pseudo; presentations = a.presentations } };
 
     ghost invariant = { λ _. ⊤ };
 }
@@ -49,6 +53,7 @@ impl Attributes {
         Ok(Attributes {
             tables: Memo::new(alloc, Kept::new(MakesTables), capacity)?,
             pseudo: Memo::new(alloc, Kept::new(MakesPseudo), capacity)?,
+            presentations: Memo::new(alloc, Kept::new(MakesPresentations), capacity)?,
         })
     }
 
@@ -72,6 +77,20 @@ impl Attributes {
         self.pseudo.get(alloc, gens)
     }
 
+    /// The canonical minimal presentation of the semigroup with these minimal generators.
+    pub fn presentation(
+        &mut self,
+        alloc: Global,
+        gens: &Nats,
+    ) -> Result<Rc<Presentation>, AllocError>
+        requires { IsLawfulList gens.now }
+        ensures presentation { IfOk result (λ relations. IsPresentationOf gens.now relations.value) }
+        ensures ok { OnOk result (self.new ≡ presentation_answered gens.now self.old) }
+        ensures err { OnErr result (IsAfterNoPresentation self.old self.new) }
+    {
+        self.presentations.get(alloc, gens)
+    }
+
     /// How often each was asked for and made.
     pub fn counts(&self) -> Counts
         ensures { AreCounts self.now result }
@@ -81,6 +100,8 @@ impl Attributes {
             tables_made: self.tables.made(),
             pseudo_asked: self.pseudo.asked(),
             pseudo_made: self.pseudo.made(),
+            presentations_asked: self.presentations.asked(),
+            presentations_made: self.presentations.made(),
         }
     }
 }

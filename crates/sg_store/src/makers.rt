@@ -2,9 +2,10 @@
 
 ghost use Rattle.std.specs.Prelude.{IfOk};
 ghost use Rattle.sg_lawful.specs.Lawful.{IsLawfulList};
-ghost use Rattle.sg_store.specs.Attributes.{IsTableOf, AreNumbersOf};
+ghost use Rattle.sg_store.specs.Attributes.{IsTableOf, AreNumbersOf, IsPresentationOf};
 
 use sg_apery::Table;
+use sg_betti::{Presentation, presentation};
 use sg_invar::pseudo_frobenius;
 use sg_memo::Makes;
 use sg_nat::{Ints, Nats};
@@ -25,6 +26,15 @@ fn pseudo_frobenius_of(alloc: Global, gens: &Nats) -> Result<Ints, AllocError>
 {
     let table = table_of(alloc, gens)?;
     pseudo_frobenius(alloc, &table)
+}
+
+/// The canonical minimal presentation. It is made from a table of its own, which is no asking.
+fn presentation_of(alloc: Global, gens: &Nats) -> Result<Presentation, AllocError>
+    requires { IsLawfulList gens.now }
+    ensures { IfOk result (λ relations. IsPresentationOf gens.now relations) }
+{
+    let table = table_of(alloc, gens)?;
+    presentation(alloc, &table)
 }
 
 /// Makes tables.
@@ -58,5 +68,22 @@ impl Makes<Ints> for MakesPseudo {
 
     fn make(&self, alloc: Global, gens: &Nats) -> Result<Ints, AllocError> {
         pseudo_frobenius_of(alloc, gens)
+    }
+}
+
+/// Makes canonical minimal presentations.
+#[derive(Drop)]
+pub struct MakesPresentations;
+
+impl Makes<Presentation> for MakesPresentations {
+    ghost use Rattle.sg_lawful.specs.Lawful.{IsLawfulList};
+    ghost use Rattle.sg_store.specs.Attributes.{IsPresentationOf};
+
+    ghost takes = { λ _ gens. IsLawfulList gens };
+
+    ghost gives = { λ _ gens relations. IsPresentationOf gens relations };
+
+    fn make(&self, alloc: Global, gens: &Nats) -> Result<Presentation, AllocError> {
+        presentation_of(alloc, gens)
     }
 }

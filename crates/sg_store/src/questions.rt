@@ -1,6 +1,7 @@
 //! The attributes of a semigroup that are kept, as questions about its minimal generators.
 
 use sg_apery::Table;
+use sg_betti::Presentation;
 use sg_memo::Question;
 use sg_nat::Ints;
 
@@ -38,4 +39,22 @@ impl Question for PseudoQ {
     ghost is_answer = { AreNumbersOf };
 
     ghost one_answer = { one_list_of_numbers };
+}
+
+/// The canonical minimal presentation.
+#[derive(Drop)]
+pub struct PresentationQ;
+
+impl Question for PresentationQ {
+    type Answer = Presentation;
+
+    ghost use Rattle.sg_lawful.specs.Lawful.{IsLawfulList};
+    ghost use Rattle.sg_store.specs.Attributes.{IsPresentationOf};
+    ghost use Rattle.sg_store.specs.OneAttribute.{one_presentation};
+
+    ghost askable = { IsLawfulList };
+
+    ghost is_answer = { IsPresentationOf };
+
+    ghost one_answer = { one_presentation };
 }

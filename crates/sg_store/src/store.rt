@@ -1,12 +1,13 @@
 //! The store.
 
 ghost use Rattle.std.specs.Prelude.{◌≡◌, [], slice_get, Some, IsSome, IfOk, OnOk, OnErr};
-ghost use Rattle.sg_store.specs.Attributes.{AreNumbersOf, nothing_asked, table_answered, numbers_answered, IsAfterNoTable, IsAfterNoNumbers};
+ghost use Rattle.sg_store.specs.Attributes.{AreNumbersOf, IsPresentationOf, nothing_asked, table_answered, numbers_answered, presentation_answered, IsAfterNoTable, IsAfterNoNumbers, IsAfterNoPresentation};
 ghost use Rattle.sg_store.specs.Held.{list_at};
 
 use crate::attributes::Attributes;
 use crate::ids::Ids;
 use sg_apery::Table;
+use sg_betti::Presentation;
 use sg_nat::Ints;
 use sg_value::SemId;
 use std::alloc::{AllocError, Global};
@@ -55,5 +56,17 @@ impl Store {
     {
         self.attributes
             .pseudo_frobenius(alloc, self.ids.generators(id))
+    }
+
+    /// The canonical minimal presentation of a known semigroup. It is made of any; a row refuses those that are too large
+    /// before it asks.
+    pub fn presentation(&mut self, alloc: Global, id: SemId) -> Result<Rc<Presentation>, AllocError>
+        requires { IsSome (slice_get self.old.ids.semigroups id) }
+        ensures presentation { IfOk result (λ relations. IsPresentationOf (list_at self.old.ids.semigroups id) relations.value) }
+        ensures ids { self.new.ids ≡ self.old.ids }
+        ensures ok { OnOk result (self.new.attributes ≡ presentation_answered (list_at self.old.ids.semigroups id) self.old.attributes) }
+        ensures err { OnErr result (IsAfterNoPresentation self.old.attributes self.new.attributes) }
+    {
+        self.attributes.presentation(alloc, self.ids.generators(id))
     }
 }

@@ -51,7 +51,7 @@ module _ (D t s : List ℕ) (S : IsNumericalSemigroup D) (f : AreFound D t s) (h
       first ∙ mod-add-mod y (length t) g ∙ ap (λ x. x % length t) whole
 
   -- a sum of a generator and a lesser member above 0, by induction on that member: where a greater generator leads to the sum, the rest is less
-  sum-below : (k m w g : ℕ) → ((x : ℕ) → x ≤ m → x < 2 ^ 62 → IsMember D x → IsAboveEntry t x) → w ≤ m + 1 → w < 2 ^ 62 → Contains D g → g < w → w ≤ g + k → IsMember D (w - g) → IsAboveEntry t w
+  sum-below : (k m w g : ℕ) → ((x : ℕ) → x ≤ m → x < 2 ^ 63 → IsMember D x → IsAboveEntry t x) → w ≤ m + 1 → w < 2 ^ 63 → Contains D g → g < w → w ≤ g + k → IsMember D (w - g) → IsAboveEntry t w
   sum-below zero m w g before low fits c less near member = absurd (omega arith)
   sum-below (suc k) m w g before low fits c less near member =
       let n = length t in
@@ -91,7 +91,7 @@ module _ (D t s : List ℕ) (S : IsNumericalSemigroup D) (f : AreFound D t s) (h
       ]
 
   -- each member that is not too large, by induction on a bound
-  small-below : (m w : ℕ) → w ≤ m → w < 2 ^ 62 → IsMember D w → IsAboveEntry t w
+  small-below : (m w : ℕ) → w ≤ m → w < 2 ^ 63 → IsMember D w → IsAboveEntry t w
   small-below zero w low fits q = subst (IsAboveEntry t) (let e : 0 ≡ w = omega arith in e) none-below
   small-below (suc m) w low fits q = elim (member-split D w q) [
     | inl e ↦ subst (IsAboveEntry t) (sym e) none-below
@@ -117,12 +117,12 @@ module _ (D t s : List ℕ) (S : IsNumericalSemigroup D) (f : AreFound D t s) (h
           let inside : i < length t = mod_below x (length t) f.not_empty in
           let a = get_or apery.0 i 0 in
           let least : a ≤ x = (apery-member D (length t) apery.0 f.not_empty f.modulus apery.1 x).0 q in
-          let fits : a < 2 ^ 62 = omega (arith, apery.2 i inside, short) in
+          let fits : a < 2 ^ 63 = omega (arith, apery.2 i inside, short) in
           let low : get_or t (a % length t) 0 ≤ a = small-below a a (omega arith) fits (apery.1.member i inside) in
           omega (arith, low, ap (λ j. get_or t j 0) (apery.1.residue i inside), least)
 
   -- an entry up to the bound that is a sum of a generator and a member above 0 is marked, by the same induction
-  sum-marked : (k w g : ℕ) → ((x : ℕ) → IsMember D x → IsAboveEntry t x) → get_or t (w % length t) 0 ≡ w → w ≤ h.bound → w < 2 ^ 62 → Contains D g → g < w → w ≤ g + k → IsMember D (w - g) →
+  sum-marked : (k w g : ℕ) → ((x : ℕ) → IsMember D x → IsAboveEntry t x) → get_or t (w % length t) 0 ≡ w → w ≤ h.bound → w < 2 ^ 63 → Contains D g → g < w → w ≤ g + k → IsMember D (w - g) →
       0 < get_or s (w % length t) 0
   sum-marked zero w g below entry within fits c less near member = absurd (omega arith)
   sum-marked (suc k) w g below entry within fits c less near member =

@@ -1,6 +1,6 @@
 -- The entries of a list of values.
 use Rattle.std.proofs.Common.{◌≡◌, ℕ, ℤ, ◌+◌, ◌<◌, zero, suc, List, [], ◌∷◌, ◌++◌, length, get_or, take, refl, ap, subst, sym, arith}
-use Rattle.sg_value.specs.Data.{Kind, semigroups, ideals, Data, int, truth, text, list, fail, semigroup, ideal, Items, none, item, EachThing, EachThingOfAll}
+use Rattle.sg_value.specs.Data.{Kind, semigroups, ideals, Data, int, truth, text, list, ratio, fail, semigroup, ideal, Items, none, item, EachThing, EachThingOfAll}
 use Rattle.sg_value.specs.Plain.{Named, IsKnown, contents, AllKnown, AllKnownIn, plain, plain_of_all}
 use Rattle.sg_value.specs.Alike.{every_place}
 use Rattle.sg_value.specs.Text.{entry_text, entry_texts, joined, separator}
@@ -20,6 +20,7 @@ mutual
   EachThing-all P all (truth b) = tt
   EachThing-all P all (text bs) = tt
   EachThing-all P all (list ds) = EachThingOfAll-all P all ds
+  EachThing-all P all (ratio p q) = tt
   EachThing-all P all fail = tt
   EachThing-all P all (semigroup h) = all _ h
   EachThing-all P all (ideal h) = all _ h

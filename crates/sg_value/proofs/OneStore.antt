@@ -1,6 +1,6 @@
 -- Values over one store, also as it grows.
 use Rattle.std.proofs.Common.{◌≡◌, ℕ, Option, Some, None, IsSome, is_some, unwrap_or, refl, ap, ap₂, sym, ◌∙◌}
-use Rattle.sg_value.specs.Data.{Kind, semigroups, ideals, int, truth, text, list, fail, semigroup, ideal, Items, none, item, data_map, items_map, EachThing, EachThingOfAll}
+use Rattle.sg_value.specs.Data.{Kind, semigroups, ideals, int, truth, text, list, ratio, fail, semigroup, ideal, Items, none, item, data_map, items_map, EachThing, EachThingOfAll}
 use Rattle.sg_value.specs.Plain.{Named, Places, Stored, IsKnown, nothing, thing_at, AreDistinct, IsKept}
 
 known_at : {A : Type 0} (o : Option A) (a : A) → IsSome o → o ≡ Some (unwrap_or o a)
@@ -22,6 +22,7 @@ mutual
   data_map-kept old new kept (list ds) known =
       let rest = items_map-kept old new kept ds known in
       (rest.0, ap list rest.1)
+  data_map-kept old new kept (ratio p q) known = (tt, refl)
   data_map-kept old new kept fail known = (tt, refl)
   data_map-kept old new kept (semigroup i) known =
       let here = thing_at-kept old new kept semigroups i known in
@@ -51,6 +52,7 @@ mutual
   data_map-same names distinct (int z) (truth c) known_d known_e same = cc
   data_map-same names distinct (int z) (text cs) known_d known_e same = cc
   data_map-same names distinct (int z) (list es) known_d known_e same = cc
+  data_map-same names distinct (int z) (ratio r s) known_d known_e same = cc
   data_map-same names distinct (int z) fail known_d known_e same = cc
   data_map-same names distinct (int z) (semigroup j) known_d known_e same = cc
   data_map-same names distinct (int z) (ideal j) known_d known_e same = cc
@@ -58,6 +60,7 @@ mutual
   data_map-same names distinct (truth b) (truth c) known_d known_e same = cc
   data_map-same names distinct (truth b) (text cs) known_d known_e same = cc
   data_map-same names distinct (truth b) (list es) known_d known_e same = cc
+  data_map-same names distinct (truth b) (ratio r s) known_d known_e same = cc
   data_map-same names distinct (truth b) fail known_d known_e same = cc
   data_map-same names distinct (truth b) (semigroup j) known_d known_e same = cc
   data_map-same names distinct (truth b) (ideal j) known_d known_e same = cc
@@ -65,6 +68,7 @@ mutual
   data_map-same names distinct (text bs) (truth c) known_d known_e same = cc
   data_map-same names distinct (text bs) (text cs) known_d known_e same = cc
   data_map-same names distinct (text bs) (list es) known_d known_e same = cc
+  data_map-same names distinct (text bs) (ratio r s) known_d known_e same = cc
   data_map-same names distinct (text bs) fail known_d known_e same = cc
   data_map-same names distinct (text bs) (semigroup j) known_d known_e same = cc
   data_map-same names distinct (text bs) (ideal j) known_d known_e same = cc
@@ -72,13 +76,23 @@ mutual
   data_map-same names distinct (list ds) (truth c) known_d known_e same = cc
   data_map-same names distinct (list ds) (text cs) known_d known_e same = cc
   data_map-same names distinct (list ds) (list es) known_d known_e same = ap list (items_map-same names distinct ds es known_d known_e (cc))
+  data_map-same names distinct (list ds) (ratio r s) known_d known_e same = cc
   data_map-same names distinct (list ds) fail known_d known_e same = cc
   data_map-same names distinct (list ds) (semigroup j) known_d known_e same = cc
   data_map-same names distinct (list ds) (ideal j) known_d known_e same = cc
+  data_map-same names distinct (ratio p q) (int y) known_d known_e same = cc
+  data_map-same names distinct (ratio p q) (truth c) known_d known_e same = cc
+  data_map-same names distinct (ratio p q) (text cs) known_d known_e same = cc
+  data_map-same names distinct (ratio p q) (list es) known_d known_e same = cc
+  data_map-same names distinct (ratio p q) (ratio r s) known_d known_e same = cc
+  data_map-same names distinct (ratio p q) fail known_d known_e same = cc
+  data_map-same names distinct (ratio p q) (semigroup j) known_d known_e same = cc
+  data_map-same names distinct (ratio p q) (ideal j) known_d known_e same = cc
   data_map-same names distinct fail (int y) known_d known_e same = cc
   data_map-same names distinct fail (truth c) known_d known_e same = cc
   data_map-same names distinct fail (text cs) known_d known_e same = cc
   data_map-same names distinct fail (list es) known_d known_e same = cc
+  data_map-same names distinct fail (ratio r s) known_d known_e same = cc
   data_map-same names distinct fail fail known_d known_e same = refl
   data_map-same names distinct fail (semigroup j) known_d known_e same = cc
   data_map-same names distinct fail (ideal j) known_d known_e same = cc
@@ -86,6 +100,7 @@ mutual
   data_map-same names distinct (semigroup i) (truth c) known_d known_e same = cc
   data_map-same names distinct (semigroup i) (text cs) known_d known_e same = cc
   data_map-same names distinct (semigroup i) (list es) known_d known_e same = cc
+  data_map-same names distinct (semigroup i) (ratio r s) known_d known_e same = cc
   data_map-same names distinct (semigroup i) fail known_d known_e same = cc
   data_map-same names distinct (semigroup i) (semigroup j) known_d known_e same = ap semigroup (thing_at-same names distinct semigroups i j known_d known_e (cc))
   data_map-same names distinct (semigroup i) (ideal j) known_d known_e same = cc
@@ -93,6 +108,7 @@ mutual
   data_map-same names distinct (ideal i) (truth c) known_d known_e same = cc
   data_map-same names distinct (ideal i) (text cs) known_d known_e same = cc
   data_map-same names distinct (ideal i) (list es) known_d known_e same = cc
+  data_map-same names distinct (ideal i) (ratio r s) known_d known_e same = cc
   data_map-same names distinct (ideal i) fail known_d known_e same = cc
   data_map-same names distinct (ideal i) (semigroup j) known_d known_e same = cc
   data_map-same names distinct (ideal i) (ideal j) known_d known_e same = ap ideal (thing_at-same names distinct ideals i j known_d known_e (cc))

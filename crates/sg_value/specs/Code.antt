@@ -4,7 +4,7 @@ use Rattle.std.specs.Coded.{Coded, coded_ℕ, coded_ℤ, coded_bool, coded_list}
 use mathlib.Core.Path.{ap}
 use native.Mathlib.Omega.{arith}
 use base.Stored.{Gv, gnil, gnum, gcons, num}
-use Rattle.sg_value.specs.Data.{Kind, semigroups, ideals, Data, int, truth, text, list, fail, semigroup, ideal, Items, none, item}
+use Rattle.sg_value.specs.Data.{Kind, semigroups, ideals, Data, int, truth, text, list, ratio, fail, semigroup, ideal, Items, none, item}
 
 abbrev head : Gv → Gv
 head gnil = gnil
@@ -29,9 +29,10 @@ module _ {H : Kind → Type 0} (c : (k : Kind) → Coded (H k)) where
     code_of (truth b) = gcons (gnum 1) (coded_bool.code b)
     code_of (text bs) = gcons (gnum 2) ((coded_list coded_ℕ).code bs)
     code_of (list ds) = gcons (gnum 3) (code_of_all ds)
-    code_of fail = gcons (gnum 4) gnil
-    code_of (semigroup h) = gcons (gnum 5) ((c semigroups).code h)
-    code_of (ideal h) = gcons (gnum 6) ((c ideals).code h)
+    code_of (ratio p q) = gcons (gnum 4) (gcons (gnum p) (gnum q))
+    code_of fail = gcons (gnum 5) gnil
+    code_of (semigroup h) = gcons (gnum 6) ((c semigroups).code h)
+    code_of (ideal h) = gcons (gnum 7) ((c ideals).code h)
 
     pub code_of_all : Items H → Gv
     code_of_all none = gnil
@@ -43,6 +44,7 @@ module _ {H : Kind → Type 0} (c : (k : Kind) → Coded (H k)) where
     one (truth b) (truth d) p = ap truth (coded_bool.inj b d (ap tail p))
     one (text bs) (text cs) p = ap text ((coded_list coded_ℕ).inj bs cs (ap tail p))
     one (list ds) (list es) p = ap list (one_all ds es (ap tail p))
+    one (ratio p q) (ratio s t) e = λ i. ratio (num (head (tail (e i)))) (num (tail (tail (e i))))
     one fail fail p = λ i. fail
     one (semigroup h) (semigroup k) p = ap semigroup ((c semigroups).inj h k (ap tail p))
     one (ideal h) (ideal k) p = ap ideal ((c ideals).inj h k (ap tail p))

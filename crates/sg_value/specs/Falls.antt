@@ -14,6 +14,7 @@ deep-contents (V.Int z) = omega arith
 deep-contents (V.Bool b) = omega arith
 deep-contents (V.Text bs) = omega arith
 deep-contents (V.List ds) = omega arith
+deep-contents (V.Ratio r) = omega arith
 deep-contents V.Fail = omega arith
 deep-contents (V.Sem id) = omega arith
 deep-contents (V.Ideal id) = omega arith

@@ -2,7 +2,7 @@
 use Rattle.std.specs.Prelude.{ℕ, ℤ, zero, suc, Bool, true, false, List, [], ◌∷◌, ◌++◌, codes, decimal, map, flat_map, if◌then◌else◌, ◌==◌, Result, OnOk, ◌≡◌}
 use Rattle.std.specs.List.{join_by}
 use Rattle.std.specs.Fmt.{signed_decimal}
-use Rattle.sg_value.specs.Data.{int, truth, text, list, fail, semigroup, ideal, Items, none, item}
+use Rattle.sg_value.specs.Data.{int, truth, text, list, ratio, fail, semigroup, ideal, Items, none, item}
 use Rattle.sg_value.specs.Plain.{Things, Plain, RelativeIdeal}
 
 -- a byte of a text in a list: the quote, the backslash, the line feed and the tab are written as two bytes
@@ -43,6 +43,10 @@ semigroup_text gens = codes "NumericalSemigroup( " ++ (numbers_text gens ++ code
 abbrev pub ideal_text : RelativeIdeal → List ℕ
 ideal_text i = integers_text i.generators ++ (codes " + " ++ semigroup_text i.ambient)
 
+-- a fraction
+abbrev pub ratio_text : ℕ → ℕ → List ℕ
+ratio_text p q = decimal p ++ (codes "/" ++ decimal q)
+
 abbrev pub bool_text : Bool → List ℕ
 bool_text true = codes "true"
 bool_text false = codes "false"
@@ -54,6 +58,7 @@ abbrev mutual
   entry_text (truth b) = bool_text b
   entry_text (text bs) = quoted bs
   entry_text (list ds) = bracketed (entry_texts ds)
+  entry_text (ratio p q) = ratio_text p q
   entry_text fail = codes "fail"
   entry_text (semigroup gens) = semigroup_text gens
   entry_text (ideal i) = ideal_text i

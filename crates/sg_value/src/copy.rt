@@ -15,6 +15,7 @@ pub fn try_clone(v: &Value, alloc: Global) -> Result<Value, AllocError>
         Value::Bool(b) => Ok(Value::Bool(*b)),
         Value::Text(text) => Ok(Value::Text(text.clone()?)),
         Value::List(items) => Ok(Value::List(items.try_clone()?)),
+        Value::Ratio(ratio) => Ok(Value::Ratio(*ratio)),
         Value::Fail => Ok(Value::Fail),
         Value::Sem(id) => Ok(Value::Sem(*id)),
         Value::Ideal(id) => Ok(Value::Ideal(*id)),

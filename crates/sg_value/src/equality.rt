@@ -15,6 +15,7 @@ pub fn equal(a: &Value, b: &Value) -> bool
         (Value::Bool(m), Value::Bool(n)) => m == n,
         (Value::Text(m), Value::Text(n)) => m.as_slice() == n.as_slice(),
         (Value::List(m), Value::List(n)) => all_equal(m.as_slice(), n.as_slice()),
+        (Value::Ratio(m), Value::Ratio(n)) => m.num == n.num && m.den == n.den,
         (Value::Fail, Value::Fail) => true,
         (Value::Sem(m), Value::Sem(n)) => m.index() == n.index(),
         (Value::Ideal(m), Value::Ideal(n)) => m.index() == n.index(),

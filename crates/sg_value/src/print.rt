@@ -7,7 +7,7 @@ ghost use Rattle.sg_value.specs.Text.{Adds, ideal_text, text_of, entry_text, ent
 
 use crate::id::IdealId;
 use crate::names::Names;
-use crate::text::{add, add_ideal_of, add_quoted, add_semigroup, add_separator};
+use crate::text::{add, add_ideal_of, add_quoted, add_ratio, add_semigroup, add_separator};
 use crate::value::Value;
 use itoa::Buffer;
 use sg_nat::Bytes;
@@ -37,6 +37,7 @@ fn add_entry<N: Names>(v: &Value, names: &N, out: &mut Bytes) -> Result<(), Allo
         Value::Bool(false) => add(b"false", out),
         Value::Text(text) => add_quoted(text.as_slice(), out),
         Value::List(items) => add_list(items.as_slice(), names, out),
+        Value::Ratio(ratio) => add_ratio(ratio.num, ratio.den, out),
         Value::Fail => add(b"fail", out),
         Value::Sem(id) => add_semigroup(names.semigroup(*id).as_slice(), out),
         Value::Ideal(id) => add_ideal(*id, names, out),

@@ -3,7 +3,7 @@
 ghost use Rattle.sg_value.specs.Alike.{every_place};
 
 use crate::{IdealId, Items, Names, SemId, Value, depth, equal, print_into, try_clone, weight};
-use sg_nat::{Bytes, Ints, Nats};
+use sg_nat::{Bytes, Ints, Nats, Ratio};
 use std::alloc::{AllocError, Global};
 use std::io;
 use std::rc::Rc;
@@ -58,6 +58,7 @@ fn texts(rt: HostRuntime) -> io::Result<()> {
         Value::Sem(SemId::new(7)),
         list(alloc, Vec::new(alloc))?,
         Value::Bool(true),
+        Value::Ratio(Ratio { num: 1, den: 2 }),
     ]?;
     let table = vec![in alloc;
         (Value::Int(0), "0"),
@@ -65,6 +66,7 @@ fn texts(rt: HostRuntime) -> io::Result<()> {
         (Value::Int(i64::MIN), "-9223372036854775808"),
         (Value::Bool(true), "true"),
         (Value::Bool(false), "false"),
+        (Value::Ratio(Ratio { num: 7, den: 3 }), "7/3"),
         (Value::Fail, "fail"),
         (Value::Sem(SemId::new(0)), "NumericalSemigroup( [ 3, 5 ] )"),
         (
@@ -76,7 +78,7 @@ fn texts(rt: HostRuntime) -> io::Result<()> {
         (list(alloc, numbers)?, "[ -1, 0, 12 ]"),
         (
             list(alloc, mixed)?,
-            r#"[ "a\"b\\c\nd\te", NumericalSemigroup( [ 3, 5 ] ), [  ], true ]"#,
+            r#"[ "a\"b\\c\nd\te", NumericalSemigroup( [ 3, 5 ] ), [  ], true, 1/2 ]"#,
         ),
     ]?;
     for (v, wanted) in table.iter() {
@@ -128,6 +130,9 @@ fn kinds_differ(rt: HostRuntime) -> io::Result<()> {
         text(alloc, b"")?,
         text(alloc, b"1")?,
         list(alloc, Vec::new(alloc))?,
+        Value::Ratio(Ratio { num: 3, den: 2 }),
+        Value::Ratio(Ratio { num: 2, den: 3 }),
+        Value::Ratio(Ratio { num: 3, den: 4 }),
         Value::Fail,
         Value::Sem(SemId::new(1)),
         Value::Sem(id),

@@ -3,7 +3,7 @@
 
 ghost use Rattle.std.specs.Fmt.{signed_decimal};
 ghost use Rattle.std.specs.Prelude.{◌++◌, decimal, flat_map, map};
-ghost use Rattle.sg_value.specs.Text.{Adds, escaped, quoted, joined, separator, numbers_text, integers_text, ideal_text, semigroup_text};
+ghost use Rattle.sg_value.specs.Text.{Adds, escaped, quoted, joined, separator, numbers_text, integers_text, ideal_text, ratio_text, semigroup_text};
 
 use itoa::Buffer;
 use sg_nat::Bytes;
@@ -24,6 +24,22 @@ pub fn add_separator(index: usize, out: &mut Bytes) -> Result<(), AllocError>
         return Ok(());
     }
     add(b", ", out)
+}
+
+/// The number in decimal.
+fn add_number(number: u64, out: &mut Bytes) -> Result<(), AllocError>
+    ensures { Adds result out.old out.new (decimal number) }
+{
+    add(Buffer::new().format(number).as_bytes(), out)
+}
+
+/// The fraction.
+pub fn add_ratio(num: u64, den: u64, out: &mut Bytes) -> Result<(), AllocError>
+    ensures { Adds result out.old out.new (ratio_text num den) }
+{
+    add_number(num, out)?;
+    add(b"/", out)?;
+    add_number(den, out)
 }
 
 /// The text in quotes.
@@ -86,7 +102,7 @@ fn add_separated_number(index: usize, number: u64, out: &mut Bytes) -> Result<()
     ensures { Adds result out.old out.new (separator index ++ decimal number) }
 {
     add_separator(index, out)?;
-    add(Buffer::new().format(number).as_bytes(), out)
+    add_number(number, out)
 }
 
 /// The ideal with these minimal generators, of the semigroup with those.

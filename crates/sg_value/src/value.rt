@@ -2,7 +2,7 @@
 
 use crate::id::{IdealId, SemId};
 use crate::items::Items;
-use sg_nat::Bytes;
+use sg_nat::{Bytes, Ratio};
 use std::rc::Rc;
 
 /// The value of an expression.
@@ -20,6 +20,9 @@ pub enum Value {
 
     /// A list of values, each of any kind.
     List(Items),
+
+    /// A fraction. Commands make it in lowest terms, with a denominator above 1.
+    Ratio(Ratio),
 
     /// No answer.
     Fail,

@@ -20,9 +20,9 @@ names_file text = nat_le 1 (length text) && (not (bytes_eq text (codes "-")) && 
 abbrev pub fits : (Text → Bool) → Option Text → Bool
 fits test text = option_map_or test text true
 
--- the most statements of a drill: no drill stands yet, so that each number is refused; 100,000 once one does
+-- the most statements of a drill
 abbrev pub most_drill : ℕ
-most_drill = 0
+most_drill = 100000
 
 -- each value is right, and there is no drill with a FILE
 abbrev pub is_right : Said → Bool

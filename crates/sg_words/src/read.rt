@@ -13,8 +13,8 @@ use clap::ArgMatches;
 use clap::error::ErrorKind;
 use std::alloc::Global;
 
-/// The most statements of a drill. No drill stands yet, so that each number is refused; it is 100,000 once one does.
-const MOST_DRILL: u64 = 0;
+/// The most statements of a drill.
+const MOST_DRILL: u64 = 100_000;
 
 /// The settings that the words ask for, by the synopsis
 /// `sgps [--budget N] [--cache N] [--stats] [--keep-going] [--drill N] [FILE]`, without the program's name.

@@ -43,13 +43,25 @@ fn accepted(rt: HostRuntime) -> Result<(), Fail> {
         stats: true,
         ..PLAIN
     };
-    let rows: [(&[&str], Settings); 6] = [
+    let drill = Settings {
+        drill: Some(100_000),
+        ..PLAIN
+    };
+    let least = Settings {
+        stats: true,
+        keep_going: true,
+        drill: Some(1),
+        ..PLAIN
+    };
+    let rows: [(&[&str], Settings); 8] = [
         (&[], PLAIN),
         (&["--"], PLAIN),
         (&["--budget=1000000", "é", "--keep-going", "--"], whole),
         (&["--", "--stats"], hidden),
         (&["--budget", "0000100000"], PLAIN),
         (&["--stats", "--cache=0"], memos),
+        (&["--drill", "0000100000"], drill),
+        (&["--keep-going", "--drill=1", "--stats"], least),
     ];
     for (words, want) in rows {
         assert!(rt; asks(rt.alloc(), words, Some(want))?);
@@ -59,7 +71,7 @@ fn accepted(rt: HostRuntime) -> Result<(), Fail> {
 
 #[test]
 fn refused(rt: HostRuntime) -> Result<(), Fail> {
-    let rows: [&[&str]; 20] = [
+    let rows: [&[&str]; 23] = [
         &[""],
         &["-"],
         &["--", "-"],
@@ -78,8 +90,11 @@ fn refused(rt: HostRuntime) -> Result<(), Fail> {
         &["--budget", "1000001"],
         &["--cache", "00000000001"],
         &["--cache", "65"],
-        &["--drill", "3"],
+        &["--drill", "0"],
+        &["--drill", "100001"],
+        &["--drill", "3", "--drill", "3"],
         &["--drill", "3", "f"],
+        &["--drill=3", "--", "f"],
     ];
     for words in rows {
         assert!(rt; asks(rt.alloc(), words, None)?);

@@ -35,3 +35,8 @@ accepted-words w r s a is = subst (Answers w) is a
 -- refused words ask for nothing
 pub refused-words : (w : Option Wanted) (r : Result Settings WordsFault) → Answers w r → r ≡ Err fault.Usage → w ≡ None
 refused-words w r a is = subst (Answers w) is a
+
+-- what is none is not named
+pub nothing-named : {P : Type 0} (o : Option ℕ) → o ≡ None → IsSome o → P
+nothing-named None e h = absurd (cc)
+nothing-named (Some n) e h = absurd (let k : Some n ≡ None = e in cc)

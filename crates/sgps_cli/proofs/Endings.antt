@@ -11,13 +11,13 @@ use Rattle.sg_play.specs.Record.{Record, Played, Ending, marked, err, done, refu
 use Rattle.sg_play.proofs.Plays.{one-play}
 use Rattle.sgps_cli.specs.Causes.{last_line}
 use Rattle.sg_words.specs.Settings.{Wanted}
-use Rattle.sgps_cli.specs.Input.{HasInput, IsInput}
+use Rattle.sgps_cli.specs.Input.{HasInput, HasNamed, IsInput, TellsScript}
 use Rattle.sgps_cli.specs.Statistics.{lines_with}
 use Rattle.sgps_cli.specs.Settled.{Settled, keep_of}
 use Rattle.sgps_cli.specs.Reports.{IsReport, told, failed, no_memory, IsFrontOfLines}
 use Rattle.sgps_cli.specs.Passed.{HasRefusals}
 use Rattle.sgps_cli.specs.Written.{Sinks, Wrote}
-use Rattle.sgps_cli.specs.Ends.{Seen, Settles, Comes, IsEarly, telling, RunsOut, SinkFaults, FailsToWrite, Ends, Closes, closed, stopped, PlaysToEnd, EndsWell}
+use Rattle.sgps_cli.specs.Ends.{Seen, IsScript, Settles, Comes, IsEarly, telling, RunsOut, SinkFaults, FailsToWrite, Ends, Closes, closed, stopped, PlaysToEnd, EndsWell}
 use Rattle.sgps_cli.specs.declared.ended.Ended.{Ended}
 use Rattle.sgps_cli.specs.declared.ending.Cause.{Cause}
 use Rattle.sgps_cli.specs.declared.ending.Cause.TheVariants as cause
@@ -112,18 +112,19 @@ run-ends c d seen old mid new f err_mid r said w o e h report first then rose =
 some-same : {A : Type 0} (o : Option A) (x y : A) → o ≡ Some x → o ≡ Some y → x ≡ y
 some-same o x y e f = let h : Some x ≡ Some y = sym e ∙ f in cc
 
--- the input that is told has the bytes that were read of it
-same-bytes : (inputs : Option (List Input)) (listed : List Input) (name : Option (List ℕ)) (b b' : List ℕ) → inputs ≡ Some listed → input_named name listed ≡ Some b → IsInput inputs name b' → b' ≡ b
-same-bytes inputs listed name b b' tells input read =
-    let there : IsInput (Some listed) name b' = subst (λ i. IsInput i name b') tells read in
-    some-same (input_named name listed) b' b there input
+-- the script that is told has the bytes that were played
+same-bytes : (drill : Option ℕ) (seen : Seen) (name : Option (List ℕ)) (b b' : List ℕ) → TellsScript drill name seen.inputs b → IsScript drill name seen b' → b' ≡ b
+same-bytes (Some statements) seen name b b' script read = read ∙ sym script
+same-bytes None seen name b b' script read =
+    let there : IsInput (Some script.0) name b' = subst (λ i. IsInput i name b') script.1 read.1 in
+    some-same (input_named name script.0) b' b there script.2
 
 -- a script that is played to its end comes to nothing else
 same-play : (seen : Seen) (p : Played) (q : PlaysToEnd seen.settings seen.inputs) → Settles seen p → p ≡ q.play
 same-play seen p q s =
     let wanted : s.1.wanted ≡ q.wanted = some-same seen.settings _ _ s.1.accepted q.accepted in
-    let read : IsInput seen.inputs q.wanted.file s.0 = subst (λ w. IsInput seen.inputs w.file s.0) wanted s.1.input in
-    let bytes : s.0 ≡ q.bytes = same-bytes seen.inputs q.listed q.wanted.file q.bytes s.0 q.told q.input read in
+    let read : IsScript q.wanted.drill q.wanted.file seen s.0 = subst (λ w. IsScript w.drill w.file seen s.0) wanted s.1.script in
+    let bytes : s.0 ≡ q.bytes = same-bytes q.wanted.drill seen q.wanted.file q.bytes s.0 q.script read in
     one-play q.wanted.budget (keep_of q.wanted) (subst (λ b. Settled b q.wanted p) bytes (subst (λ w. Settled s.0 w p) wanted s.2)) q.settled
 
 same-end : (seen : Seen) (p : Played) (q : PlaysToEnd seen.settings seen.inputs) → Settles seen p → p.ending ≡ done
@@ -153,12 +154,15 @@ ends-well cause.Memory seen old new f h q s o e = tt
 
 -- the input is there where it is told
 pub input-there : (settings : Option Wanted) (inputs : Option (List Input)) → PlaysToEnd settings inputs → HasInput settings inputs
-input-there settings inputs q =
-    subst (λ s. HasInput s inputs) (sym q.accepted) (subst (λ i. HasInput (Some q.wanted) i) (sym q.told) (is-there (input_named q.wanted.file q.listed) q.bytes q.input))
+input-there settings inputs q = subst (λ s. HasInput s inputs) (sym q.accepted) (has q.wanted.drill q.script)
   where
     is-there : (o : Option (List ℕ)) (b : List ℕ) → o ≡ Some b → IsSome o
     is-there None b e = absurd (let h : None ≡ Some b = e in cc)
     is-there (Some x) b e = refl
+
+    has : (drill : Option ℕ) → TellsScript drill q.wanted.file inputs q.bytes → HasNamed drill q.wanted.file inputs
+    has (Some statements) script = tt
+    has None script = subst (λ i. HasNamed None q.wanted.file i) (sym script.1) (is-there (input_named q.wanted.file script.0) q.bytes script.2)
 
 -- no count that stays 0 rose
 pub none-rose : (before now : ℕ) → before ≡ 0 → now ≡ 0 → Rose before now → ⊥

@@ -9,5 +9,6 @@ pub mod Measured
 pub mod Settling
 pub mod Beginning
 pub mod Closing
+pub mod Drilling
 pub mod Endings
 pub mod Statistics

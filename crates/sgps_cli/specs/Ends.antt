@@ -1,8 +1,9 @@
 -- How a run ends, and what it wrote by then.
-use Rattle.std.specs.Prelude.{◌≡◌, ℕ, ◌+◌, ◌≤◌, ◌⊎◌, Bool, true, false, List, [], ◌++◌, length, take, Option, None, Some, is_some, ⊤}
+use Rattle.std.specs.Prelude.{◌≡◌, ℕ, ◌+◌, ◌≤◌, ◌⊎◌, Bool, true, false, List, [], ◌++◌, length, take, Option, None, Some, is_some, IsSome, ⊤}
 use Rattle.sg_cut.specs.declared.limits.TheConstants.{SCRIPT_LIMIT, STATEMENT_LIMIT}
 use Rattle.sg_io.specs.Faults.{Rose}
-use Rattle.sg_io.specs.Inputs.{Input, input_named}
+use Rattle.sg_drill.specs.Script.{drill_script}
+use Rattle.sg_io.specs.Inputs.{Input}
 use Rattle.sg_rows.specs.declared.fault.Fault.TheVariants as fault
 use Rattle.sg_words.specs.Settings.{Wanted}
 use Rattle.sg_play.specs.Record.{Record, Refusal, err, marked, IsFrontOf, Played, done, refused, waiting}
@@ -11,8 +12,8 @@ use Rattle.sg_play.specs.Left.{IsLeft}
 use Rattle.sgps_cli.specs.Causes.{last_line}
 use Rattle.sgps_cli.specs.Passed.{HasRefusals}
 use Rattle.sgps_cli.specs.Written.{Sinks, Wrote}
-use Rattle.sgps_cli.specs.Input.{IsInput, IsTaken}
-use Rattle.sgps_cli.specs.Settled.{Settled, keep_of}
+use Rattle.sgps_cli.specs.Input.{IsInput, IsTaken, TellsScript}
+use Rattle.sgps_cli.specs.Settled.{Settled, body_of, keep_of}
 use Rattle.sgps_cli.specs.Statistics.{last_lines, lines_with}
 use Rattle.sgps_cli.specs.declared.ending.Cause.{Cause}
 use Rattle.sgps_cli.specs.declared.ended.Ended.{Ended}
@@ -28,21 +29,26 @@ pub record Seen : Type 0 where
   pub faults_before : ℕ
   pub faults_after : ℕ
 
--- the source was begun, with the input b that the accepted words name
+-- b is the script of a drill with so many statements; or the source was begun, with the input b of this name
+abbrev pub IsScript : Option ℕ → Option (List ℕ) → Seen → List ℕ → Type 0
+IsScript (Some statements) name seen b = b ≡ drill_script statements
+IsScript None name seen b = (seen.begun ≡ true) × IsInput seen.inputs name b
+
+-- b is the script that the accepted words name
 pub record Reads (seen : Seen) (b : List ℕ) : Type 0 where
   pub wanted : Wanted
   pub accepted : seen.settings ≡ Some wanted
-  pub begun : seen.begun ≡ true
-  pub input : IsInput seen.inputs wanted.file b
+  pub script : IsScript wanted.drill wanted.file seen b
 
 -- the whole script came to this play
 abbrev pub Settles : Seen → Played → Type 0
 Settles seen p = (b : List ℕ) × (r : Reads seen b) × Settled b r.wanted p
 
--- the part of the input that was taken, played as if more may follow, waits for more
+-- the part of the input that was taken, played as if more may follow, waits for more; there is no drill
 pub record WaitsForMore (seen : Seen) (p : Played) : Type 0 where
   pub wanted : Wanted
   pub accepted : seen.settings ≡ Some wanted
+  pub no_drill : wanted.drill ≡ None
   pub begun : seen.begun ≡ true
   pub bytes : List ℕ
   pub taken : IsTaken seen.inputs wanted.file seen.left bytes
@@ -58,9 +64,9 @@ pub record IsOverlongAtLimit (c : Cause) (seen : Seen) : Type 0 where
   pub only : c ≡ cause.Overlong → ReachesLimit seen
   pub always : is_some seen.inputs ≡ true → ReachesLimit seen → (c ≡ cause.Overlong) ⊎ (c ≡ cause.WriteFault) ⊎ (c ≡ cause.Memory)
 
--- accepted words, with which the source was not begun
+-- accepted words without a drill, with which the source was not begun
 abbrev pub CouldNotBegin : Seen → Type 0
-CouldNotBegin seen = ((wanted : Wanted) × (seen.settings ≡ Some wanted)) × (seen.begun ≡ false)
+CouldNotBegin seen = (wanted : Wanted) × (seen.settings ≡ Some wanted) × (wanted.drill ≡ None) × (seen.begun ≡ false)
 
 -- the cause of a play, by its ending and the statements that it passed
 abbrev pub IsCauseOf : Cause → Played → Type 0
@@ -79,16 +85,17 @@ abbrev pub Comes : Cause → Seen → Record → List ℕ → Type 0
 Comes cause.Usage seen body lines = (seen.settings ≡ None) × (body ≡ []) × (lines ≡ last_line cause.Usage)
 Comes cause.ReadFault seen body lines =
     Rose seen.faults_before seen.faults_after × (CouldNotBegin seen × (body ≡ []) ⊎ ((p : Played) × WaitsForMore seen p × (body ≡ p.written))) × (lines ≡ last_line cause.ReadFault)
-Comes c seen body lines = (p : Played) × (s : Settles seen p) × IsCauseOf c p × (body ≡ p.written) × (lines ≡ last_lines s.1.wanted c p.asked)
+Comes c seen body lines = (p : Played) × (s : Settles seen p) × IsCauseOf c p × (body ≡ body_of s.1.wanted p) × (lines ≡ last_lines s.1.wanted c p.asked)
 
 -- no more was taken of the input than so many bytes
 abbrev pub TakesUpTo : Seen → ℕ → Type 0
 TakesUpTo seen n = (wanted : Wanted) × (seen.settings ≡ Some wanted) × ((bytes : List ℕ) × IsTaken seen.inputs wanted.file seen.left bytes × (length bytes ≤ n))
 
 -- a run whose cause is that of its play took no more than a statement may have, from the first byte of the statement on
--- that ended it
+-- that ended it, unless it played a drill
 abbrev pub IsNear : Cause → Seen → Type 0
-IsNear c seen = (p : Played) × Settles seen p × IsCauseOf c p × ((place : ℕ) → p.place ≡ Some place → TakesUpTo seen (place + STATEMENT_LIMIT))
+IsNear c seen =
+    (p : Played) × (s : Settles seen p) × IsCauseOf c p × (s.1.wanted.drill ≡ None → (place : ℕ) → p.place ≡ Some place → TakesUpTo seen (place + STATEMENT_LIMIT))
 
 -- the same, of each cause
 abbrev pub ReadsInOnePass : Cause → Seen → Type 0
@@ -101,11 +108,13 @@ ReadsInOnePass c seen = IsNear c seen
 
 -- A run that was stopped had written this, while its script was played, and this front of its last lines. The first is a
 -- front of what the whole script writes, for every play that the script has. There is at most one, and that there
--- always is one is no part of this definition: so it also says what was played, whole statements and a part of one.
+-- always is one is no part of this definition: so it also says what was played, whole statements and a part of one. A
+-- drill writes nothing while it is played, and a front of its three lines behind that.
 pub data IsEarly (seen : Seen) : Record → List ℕ → Type 0 where
   nothing : IsEarly seen [] []
-  playing : {r : Record} (b : List ℕ) (reads : Reads seen b) → IsLeft (take SCRIPT_LIMIT b) reads.wanted.budget (keep_of reads.wanted) r
+  playing : {r : Record} (b : List ℕ) (reads : Reads seen b) → reads.wanted.drill ≡ None → IsLeft (take SCRIPT_LIMIT b) reads.wanted.budget (keep_of reads.wanted) r
       → ((p : Played) → Settled b reads.wanted p → IsFrontOf r p.written) → IsEarly seen r []
+  showing : {r : Record} (p : Played) (s : Settles seen p) → IsSome s.1.wanted.drill → IsFrontOf r (body_of s.1.wanted p) → IsEarly seen r []
   telling : {r : Record} {said : List ℕ} (c : Cause) (rest : List ℕ) → Comes c seen r (said ++ rest) → IsEarly seen r said
 
 -- a run that was stopped wrote what it had written, and a front of the line for want of memory
@@ -144,14 +153,12 @@ pub record IsClosed (e : Ended) (seen : Seen) (r : Record) : Type 0 where
   pub overlong : IsOverlongAtLimit e.cause seen
   pub one_pass : ReadsInOnePass e.cause seen
 
--- the source tells the input that the words name, and the script in it is played to its end
+-- the script that the words name is told, and played to its end
 pub record PlaysToEnd (settings : Option Wanted) (inputs : Option (List Input)) : Type 0 where
   pub wanted : Wanted
   pub accepted : settings ≡ Some wanted
-  pub listed : List Input
-  pub told : inputs ≡ Some listed
   pub bytes : List ℕ
-  pub input : input_named wanted.file listed ≡ Some bytes
+  pub script : TellsScript wanted.drill wanted.file inputs bytes
   pub play : Played
   pub settled : Settled bytes wanted play
   pub ends : play.ending ≡ done

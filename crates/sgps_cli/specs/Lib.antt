@@ -7,3 +7,4 @@ pub mod Playing
 pub mod Reports
 pub mod Statistics
 pub mod Ends
+pub mod Drilled

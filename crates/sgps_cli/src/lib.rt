@@ -8,6 +8,7 @@
 //! play has come.
 #![tactic(auto)]
 
+mod drill;
 mod ended;
 mod ending;
 pub mod laws;

@@ -84,7 +84,7 @@ pub fn play<S: Source, W: Sink, E: Sink>(
 }
 
 /// Nothing was played for want of memory.
-fn unplayed() -> Finish
+pub fn unplayed() -> Finish
     ensures cause { result.cause ≡ Cause.Memory }
     ensures counts { AreCounts (nothing_asked 0) result.counts }
 {
@@ -95,6 +95,8 @@ fn unplayed() -> Finish
             tables_made: 0,
             pseudo_asked: 0,
             pseudo_made: 0,
+            presentations_asked: 0,
+            presentations_made: 0,
         },
     }
 }

@@ -4,7 +4,7 @@ ghost use Rattle.std.specs.Prelude.{◌≡◌, ◌≤◌, ℕ, List, true, false
 ghost use Rattle.sg_io.specs.Faults.{Rose};
 ghost use Rattle.sgps_cli.specs.Causes.{status_of};
 ghost use Rattle.sg_words.specs.Settings.{Wanted, settings_of};
-ghost use Rattle.sgps_cli.specs.Input.{HasInput, IsTaken};
+ghost use Rattle.sgps_cli.specs.Input.{HasInput, IsTaken, NamesNoInput};
 ghost use Rattle.sg_cut.specs.declared.limits.TheConstants.{SCRIPT_LIMIT};
 ghost use Rattle.sgps_cli.specs.Ends.{Ends, EndsWell, IsOverlongAtLimit, PlaysToEnd, ReadsInOnePass};
 
@@ -14,9 +14,10 @@ use crate::settle::settle;
 use sg_io::{Sink, Source};
 use std::alloc::Global;
 
-/// Runs the script that the words name: standard input, or one file. Each statement is executed before more is read.
-/// What it prints goes to `out`, and the line of the end, if it has one, to `err`. With `--keep-going` the line of a
-/// refused statement goes to `err` at once, and the run goes on behind it.
+/// Runs the script that the words name: standard input, one file, or a drill. Each statement is executed before more is
+/// read. What it prints goes to `out`, and the line of the end, if it has one, to `err`. With `--keep-going` the line of a
+/// refused statement goes to `err` at once, and the run goes on behind it. With `--drill N` no source is begun, and `out`
+/// gets the three lines of the drill in place of what its statements print.
 ///
 /// Ok: the script ran to its end, or to `quit;`, and no statement was refused; Refusals: some were, with their number and
 /// the line of the last. Script, and Budget: a statement was refused, by that fault, with its line, and the run ended
@@ -59,9 +60,9 @@ pub fn run<S: Source, W: Sink, E: Sink>(
         → S.sure source.old ≡ true → S.faults source.old ≡ 0 → W.sure out.old ≡ true → E.sure err.old ≡ true
         → EndsWell result.cause plays.play.refusals }
 
-    // Refused words leave the source alone. One that is begun has the input, of which no more than the limit is taken;
+    // Refused words, and a drill, leave the source alone. One that is begun has the input, of which no more than the limit is taken;
     // no input is asked for that is not there.
-    ensures untouched { settings_of (map string_bytes words.now) ≡ None → source.new ≡ source.old }
+    ensures untouched { NamesNoInput (settings_of (map string_bytes words.now)) → source.new ≡ source.old }
     ensures taken { S.begun source.new ≡ true
         → (wanted : Wanted) × (settings_of (map string_bytes words.now) ≡ Some wanted)
         × ((bytes : List ℕ) × IsTaken (S.inputs source.old) wanted.file (S.left source.new) bytes × (length bytes ≤ SCRIPT_LIMIT)) }

@@ -45,16 +45,21 @@ fn write_lines<E: Sink>(err: &mut E, ended: Ended) -> Result<(), SinkFault>
     }
 }
 
-/// Writes the lines of the counts. Nothing asks for presentations yet.
+/// Writes the lines of the counts.
 fn write_counts<E: Sink>(err: &mut E, counts: Counts) -> Result<(), SinkFault>
-    ensures all { OnOk result (E.taken err.new ≡ append_known (E.taken err.old) (counts_lines counts.tables_asked counts.tables_made counts.pseudo_asked counts.pseudo_made)) }
-    ensures front { AppendsFront (E.taken err.old) (E.taken err.new) (counts_lines counts.tables_asked counts.tables_made counts.pseudo_asked counts.pseudo_made) }
+    ensures all { OnOk result (E.taken err.new ≡ append_known (E.taken err.old) (counts_lines counts)) }
+    ensures front { AppendsFront (E.taken err.old) (E.taken err.new) (counts_lines counts) }
     ensures cause { HasCauseAt SinkFault.Failed (E.faults err.old) (E.faults err.new) result }
     ensures sure { E.sure err.new ≡ E.sure err.old }
 {
     write_count(err, b"table", counts.tables_asked, counts.tables_made)?;
     write_count(err, b"pseudo", counts.pseudo_asked, counts.pseudo_made)?;
-    write_count(err, b"presentation", 0, 0)
+    write_count(
+        err,
+        b"presentation",
+        counts.presentations_asked,
+        counts.presentations_made,
+    )
 }
 
 /// Writes how often an attribute was asked for and made.

@@ -1,8 +1,8 @@
 use Rattle.std.proofs.Common.{◌≡◌, ◌<◌, take}
 use Rattle.sg_value.specs.declared.limits.TheConstants.{WEIGHT_LIMIT}
-use Rattle.sg_rows.specs.Values.{weight_of_vectors}
+use Rattle.sg_rows.specs.Values.{weight_of_lists}
 use Rattle.sg_calls.proofs.delivering.are_heavy.Given as goal
 
--- the weight so far is that of the first vectors, and is not too heavy
-abbrev pub invariant-loop-vector : goal.invariant-loop-vector
-invariant-loop-vector l = (l.weight ≡ weight_of_vectors (take l.vector-index l.vectors)) × (l.weight < WEIGHT_LIMIT)
+-- the weight so far is that of the first lists, and is not too heavy
+abbrev pub invariant-loop-vectors : goal.invariant-loop-vectors
+invariant-loop-vectors l = (l.weight ≡ weight_of_lists (take l.vectors-index l.lists)) × (l.weight < WEIGHT_LIMIT)

@@ -3,10 +3,10 @@ use Rattle.std.specs.Prelude.{IfOk, pos}
 use Rattle.std.proofs.lemmas.Result.{IfOk-weaker}
 use Rattle.sg_value.specs.Data.{int, items_of, list}
 use Rattle.sg_value.specs.Plain.{contents, contents_of_all}
-use Rattle.sg_rows.specs.declared.made.Made.TheVariants.{Integers, Naturals, Vectors}
-use Rattle.sg_rows.specs.Values.{natural_list}
+use Rattle.sg_rows.specs.declared.made.Made.TheVariants.{Integers, Naturals, Vectors, VectorLists}
+use Rattle.sg_rows.specs.Values.{natural_list, vector_list}
 use Rattle.sg_calls.specs.Delivered.{IsValueOf}
-use Rattle.sg_calls.proofs.MadeValues.{integers_value, naturals_value, vectors_value}
+use Rattle.sg_calls.proofs.MadeValues.{integers_value, naturals_value, vectors_value, lists_value}
 use Rattle.sg_calls.proofs.delivering.value_of.Goals as goal
 
 pub returns-in_ok-integer_values-in-Integers-clause-value : goal.returns-in_ok-integer_values-in-Integers-clause-value
@@ -34,3 +34,12 @@ returns-in_ok-vector_values-in-Vectors-clause-value c =
     let same = c.in_ok-vector_values-in-Vectors.ensures ∙ ap (λ ls. items_of (map natural_list ls)) c.as_slice-in-Vectors.ensures in
     subst (λ m. IfOk r (IsValueOf store m)) (sym c.in-Vectors.is)
     (IfOk-weaker r (λ v. contents v ≡ list (contents_of_all vs)) (IsValueOf store (Vectors c.in-Vectors.vectors)) (λ v is. vectors_value store c.in-Vectors.vectors vs v is same) c.list_value-in-Vectors.ensures)
+
+pub returns-in_ok-vector_list_values-in-VectorLists-clause-value : goal.returns-in_ok-vector_list_values-in-VectorLists-clause-value
+returns-in_ok-vector_list_values-in-VectorLists-clause-value c =
+    let store = c.args.ids.now in
+    let vs = c.in_ok-vector_list_values-in-VectorLists.field-0.items in
+    let r = c.list_value-in-VectorLists.result in
+    let same = c.in_ok-vector_list_values-in-VectorLists.ensures ∙ ap (λ ls. items_of (map vector_list ls)) c.as_slice-in-VectorLists.ensures in
+    subst (λ m. IfOk r (IsValueOf store m)) (sym c.in-VectorLists.is)
+    (IfOk-weaker r (λ v. contents v ≡ list (contents_of_all vs)) (IsValueOf store (VectorLists c.in-VectorLists.lists)) (λ v is. lists_value store c.in-VectorLists.lists vs v is same) c.list_value-in-VectorLists.ensures)

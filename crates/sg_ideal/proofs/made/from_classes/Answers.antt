@@ -7,7 +7,7 @@ use Rattle.sg_ideal.proofs.FinishLemmas.{finish-made, finish-refused}
 use Rattle.sg_ideal.proofs.made.from_classes.Goals as goal
 
 -- the new base as it is passed
-passed : (base : ℤ) (least : ℕ) → neg_ℤ (pos (2 ^ 34)) ≤ℤ base → base ≤ℤ pos (2 ^ 34) → least ≤ APERY_ENTRY_LIMIT → to_z w64 (of_z w64 (to_z w64 (of_z w64 base) +ℤ to_z w64 least)) ≡ base +ℤ pos least
+passed : (base : ℤ) (least : ℕ) → neg_ℤ (pos (2 ^ 42)) ≤ℤ base → base ≤ℤ pos (2 ^ 42) → least ≤ APERY_ENTRY_LIMIT → to_z w64 (of_z w64 (to_z w64 (of_z w64 base) +ℤ to_z w64 least)) ≡ base +ℤ pos least
 passed base least low high small = omega (arith, ints, low, high, small)
 
 pub from_table-requires : goal.from_table-requires

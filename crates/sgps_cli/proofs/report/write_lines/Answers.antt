@@ -10,10 +10,10 @@ pub returns-in_err-write_line-in-Some-clause-front : goal.returns-in_err-write_l
 returns-in_err-write_line-in-Some-clause-front g c =
     let n = c.in-Some.counts in
     subst (λ o. AppendsFront (g.E.Sink.taken c.args.err.now) (g.E.Sink.taken c.write_line-in-Some.new.err) (lines_with c.args.ended.cause o)) (sym c.in-Some.is)
-    (front-more _ _ (last_line c.args.ended.cause) (counts_lines n.tables_asked n.tables_made n.pseudo_asked n.pseudo_made) c.write_line-in-Some.ensures.front)
+    (front-more _ _ (last_line c.args.ended.cause) (counts_lines n) c.write_line-in-Some.ensures.front)
 
 pub returns-in_ok-write_line-in-Some-clause-front : goal.returns-in_ok-write_line-in-Some-clause-front
 returns-in_ok-write_line-in-Some-clause-front g c =
     let n = c.in-Some.counts in
     subst (λ o. AppendsFront (g.E.Sink.taken c.args.err.now) (g.E.Sink.taken c.write_counts.new.err) (lines_with c.args.ended.cause o)) (sym c.in-Some.is)
-    (front-after _ _ _ (last_line c.args.ended.cause) (counts_lines n.tables_asked n.tables_made n.pseudo_asked n.pseudo_made) c.in_ok-write_line-in-Some.ensures.all c.write_counts.ensures.front)
+    (front-after _ _ _ (last_line c.args.ended.cause) (counts_lines n) c.in_ok-write_line-in-Some.ensures.all c.write_counts.ensures.front)

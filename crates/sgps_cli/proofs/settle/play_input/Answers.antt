@@ -19,7 +19,7 @@ returns-clause-ends g c =
     (of-ok c.begin.result (sym c.is_err.ensures.value ∙ c.if-is_err.false) c.begin.ensures.whole)
     (g.met.S.Source.tells_both c.begin.new.self ∙ ap is_some c.begin.ensures.inputs) p.told in
     let seen : Seen = record { settings = Some (wanted_of c.args.settings); inputs = g.S.Source.inputs c.args.source.now; begun = g.S.Source.begun c.play-finish.new.source; left = g.S.Source.left c.play-finish.new.source; faults_before = g.S.Source.faults c.args.source.now; faults_after = g.S.Source.faults c.play-finish.new.source } in
-    let has : HasTaken seen p.bytes = record { wanted = wanted_of c.args.settings; accepted = refl; begun = c.play-finish.ensures.begun; taken = taken; long = p.within } in (
+    let has : HasTaken seen p.bytes = record { wanted = wanted_of c.args.settings; accepted = refl; no_drill = c.requires.no_drill; begun = c.play-finish.ensures.begun; taken = taken; long = p.within } in (
       p.written,
       p.wrote,
       subst (λ e. IsClosed e seen p.written) (same-ended c.told.result _ _ c.told.ensures.cause c.told.ensures.counts)
@@ -36,7 +36,7 @@ returns-then-is_err-clause-ends g c =
       [],
       wrote-none _,
       subst (λ e. IsClosed e seen []) (same-ended c.bare.result _ _ c.bare.ensures.cause c.bare.ensures.counts)
-          (closed-unbegun seen failed.0 (of-err c.begin.result is_error c.begin.ensures.cause.failed, inl (((wanted_of c.args.settings, refl), failed.0), refl), refl)),
+          (closed-unbegun seen failed.0 (of-err c.begin.result is_error c.begin.ensures.cause.failed, inl ((wanted_of c.args.settings, refl, c.requires.no_drill, failed.0), refl), refl)),
     )
 
 pub returns-clause-taken : goal.returns-clause-taken
