@@ -1,0 +1,4 @@
+pub mod IntegerLemmas
+pub mod ImageLemmas
+pub mod BelowLemmas
+pub mod GrownLemmas

@@ -1,0 +1,4 @@
+//! The search for the minimal solutions of linear equations over the naturals.
+#![tactic(auto)]
+
+pub mod laws;
