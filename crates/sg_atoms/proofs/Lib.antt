@@ -2,3 +2,5 @@ pub mod IntegerLemmas
 pub mod ImageLemmas
 pub mod BelowLemmas
 pub mod GrownLemmas
+pub mod AtomLemmas
+pub mod LevelLemmas
