@@ -1,4 +1,25 @@
-//! The search for the minimal solutions of linear equations over the naturals.
+//! The minimal solutions of linear equations over the naturals, by a search under a budget.
+//!
+//! A matrix is the list of its columns; contracts see `Columns` as that list, and a vector as a list of naturals. The
+//! definitions are those of `sg_nonunique` (`Equations`): a solution is a vector that the matrix sends to zero, an atom a
+//! nonzero one with no other below it, and the grown vectors are those that a search from the unit vectors passes through.
+//! The contract that the layer above uses: `least_solutions` lists exactly the atoms, or says that more vectors are grown
+//! than the budget allows.
+//!
+//! The laws: atoms are the grown solutions, and what grows from the vectors of one length is told by the atoms up to that
+//! length (`specs/Levels`). The search is that of Contejean and Devie (1994).
 #![tactic(auto)]
 
+mod columns;
+mod equations;
+mod fault;
 pub mod laws;
+mod level;
+mod products;
+mod search;
+#[cfg(test)]
+mod tests;
+
+pub use columns::Columns;
+pub use fault::SearchFault;
+pub use search::least_solutions;
