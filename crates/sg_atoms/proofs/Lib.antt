@@ -4,3 +4,5 @@ pub mod BelowLemmas
 pub mod GrownLemmas
 pub mod AtomLemmas
 pub mod LevelLemmas
+pub mod ProductLemmas
+pub mod MachineLemmas
