@@ -4,11 +4,12 @@ use Rattle.std.specs.Prelude.{All}
 use Rattle.std.proofs.lemmas.List.Elements.{All-head, All-tail}
 use Rattle.std.proofs.lemmas.List.Sums.{sum_by-cons}
 use Rattle.std.proofs.lemmas.Int.{ints, unsigned_abs-mul}
-use native.Mathlib.Nat.{mul-le-mul, mul-le-mul_left}
+use native.Mathlib.Nat.{mul-le-mul, mul-le-mul_left, mul-le-mul_right}
+use Rattle.std.proofs.lemmas.List.{get_or-map, get_or_default, length-map}
 use borrow.Author.Differences.{up, down, same_in, product_is, sum_is_lem, abs_is}
 use Rattle.sg_nonunique.specs.Equations.{AreColumns, image_of, inner_product, IsSolution}
-use Rattle.sg_atoms.specs.Matrices.{AreWithin, weighted, products_with}
-use Rattle.sg_atoms.proofs.ImageLemmas.{weight_of, inner-image, inner-itself, length-image}
+use Rattle.sg_atoms.specs.Matrices.{AreWithin, IsMatrix, weighted, products_with, products_of}
+use Rattle.sg_atoms.proofs.ImageLemmas.{weight_of, inner-image, inner-itself, inner-zeros, length-image}
 
 -- ---- place by place
 
@@ -111,3 +112,38 @@ solution-from_products r columns p h e zero_ =
       | inl none ↦ record { places = e; zero_image = none ∙ ap (λ n. replicate n (pos 0)) (length-image r columns p h) }
       | inr some ↦ absurd (omega (arith, ints, some, inner-image v r columns p h, zero-weight v columns p zero_))
     ]
+
+-- ---- a row of the table of products
+
+module _ (columns : List (List ℤ)) (m : IsMatrix columns) (place : ℕ) (inside : place < length columns) where
+  abbrev column : List ℤ
+  column = get_or columns place []
+
+  -- what is read at a place
+  pub row-is : (table : List (List ℤ)) (row : List ℤ) → table ≡ products_of columns → get_or table place row ≡ row → row ≡ products_with columns column
+  row-is table row e at =
+      sym at ∙ ap (λ t. get_or t place row) e ∙ get_or_default (products_of columns) place row (products_with columns []) (omega (arith, inside, length-map columns (products_with columns)))
+      ∙ get_or-map (products_with columns) columns place [] (products_with columns []) inside
+
+  pub row-long : length (products_with columns column) ≡ length columns
+  row-long = length-map columns (inner_product column)
+
+  pub row-small : AreWithin 34359738368 (products_with columns column)
+  row-small k d l =
+      let there : k < length columns = omega (arith, l, row-long) in
+      let same : get_or (products_with columns column) k d ≡ inner_product column (get_or columns k []) =
+      get_or_default (products_with columns column) k d (inner_product column []) l ∙ get_or-map (inner_product column) columns k [] (inner_product column []) there in
+      let bound = inner-bound 65535 column (get_or columns k []) (m.small place [] inside) (m.small k [] there) in
+      let short : length column ≤ 8 = omega (arith, m.shape place [] inside, m.short) in
+      let many : length column * (65535 * 65535) ≤ 8 * (65535 * 65535) = mul-le-mul_right (65535 * 65535) short in
+      subst (λ z. unsigned_abs z ≤ 34359738368) (sym same) (omega (arith, bound, many))
+
+-- the image of a solution has a product of zero with each column
+pub solution-products : (r : ℕ) (columns : List (List ℤ)) (p : List ℕ) (v : List ℤ) → IsSolution r columns p → inner_product (image_of r columns p) v ≡ pos 0
+solution-products r columns p v h = inner-turned (image_of r columns p) v ∙ ap (inner_product v) h.zero_image ∙ inner-zeros v r
+
+-- what is read at a place of the table that goes with the columns
+pub read-row : (columns kept table slice : List (List ℤ)) (x v : List ℤ) (place : ℕ) → kept ≡ columns → IsMatrix kept → table ≡ products_of kept → slice ≡ table →
+    x ≡ get_or slice place x → v ≡ x → place < length columns → v ≡ products_with columns (get_or columns place [])
+read-row columns kept table slice x v place same m e f at g inside =
+    g ∙ row-is columns (subst IsMatrix same m) place inside slice x (f ∙ e ∙ ap products_of same) (sym at)

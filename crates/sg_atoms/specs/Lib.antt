@@ -1,2 +1,4 @@
 pub mod Levels
 pub mod Matrices
+pub mod Sets
+pub mod Faults

@@ -54,7 +54,8 @@ impl Equations {
 
     /// How many columns there are.
     pub fn places(&self) -> usize
-        ensures { result ≡ length self.now }
+        ensures number { result ≡ length self.now }
+        ensures matrix { IsMatrix self.now }
     {
         self.columns.len()
     }
