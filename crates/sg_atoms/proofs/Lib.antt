@@ -6,3 +6,4 @@ pub mod AtomLemmas
 pub mod LevelLemmas
 pub mod ProductLemmas
 pub mod MachineLemmas
+pub mod SetLemmas
