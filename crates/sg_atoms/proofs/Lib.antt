@@ -7,3 +7,5 @@ pub mod LevelLemmas
 pub mod ProductLemmas
 pub mod MachineLemmas
 pub mod SetLemmas
+pub mod GrowthLemmas
+pub mod FaultLemmas

@@ -54,7 +54,7 @@ impl Level {
     }
 
     /// Puts a vector in, where it is not there.
-    fn insert(&mut self, vector: Nats) -> Result<(), AllocError>
+    pub fn insert(&mut self, vector: Nats) -> Result<(), AllocError>
         ensures ok { OnOk result (IsAdded self.old vector self.new) }
         ensures err { OnErr result (self.new ≡ self.old) }
     {

@@ -17,9 +17,6 @@ pub mod laws;
 mod level;
 mod products;
 mod search;
-#[cfg(test)]
-mod tests;
 
 pub use columns::Columns;
 pub use fault::SearchFault;
-pub use search::least_solutions;

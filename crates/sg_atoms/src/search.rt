@@ -1,24 +1,73 @@
 //! The search, level by level: each level has the grown vectors of one length.
 
+ghost use Rattle.std.specs.Prelude.{◌≡◌, ◌≤◌, ◌<◌, ◌+◌, ◌^◌, ◌↔◌, ◌⊎◌, [], ℕ, List, length, sum, slice_index, All, Contains, IfOk, IfErr, OnOk, IsTrue};
+ghost use Rattle.sg_nonunique.specs.Counts.{Exceeds};
+ghost use Rattle.sg_nonunique.specs.Equations.{IsSolution};
+ghost use Rattle.sg_nonunique.specs.Places.{raise};
+ghost use Rattle.sg_atoms.specs.Faults.{IsSpent};
+ghost use Rattle.sg_atoms.specs.Growth.{Gathers, IsFree, IsGrowth, IsGrowthAt, IsGrowthOf};
+ghost use Rattle.sg_atoms.specs.Matrices.{rows_of};
+
 use crate::equations::Equations;
 use crate::fault::SearchFault;
 use crate::level::Level;
-use sg_nat::{Ints, Nats, Rows, dominates};
+use sg_nat::{Nats, dominates};
 use std::alloc::{AllocError, Global};
 
 /// The vector with one more at a place.
-fn raised(alloc: Global, vector: &[u64], place: usize) -> Result<Nats, AllocError> {
+fn raised(alloc: Global, vector: &[u64], place: usize) -> Result<Nats, AllocError>
+    requires place { place < length vector.now }
+    requires small { slice_index vector.now place + 1 < 2 ^ 64 }
+    ensures { IfOk result (λ high. high ≡ raise vector.now place) }
+{
     let mut entries = Vec::from_slice(alloc, vector)?;
     entries[place] += 1;
     Nats::from_slice(alloc, &entries)
 }
 
 /// Whether no atom lies below a vector.
-fn is_clear(atoms: &[Nats], vector: &[u64]) -> bool {
-    !atoms.iter().any(|atom| dominates(vector, atom.as_slice()))
+fn is_clear(atoms: &[Nats], vector: &[u64]) -> bool
+    requires { All (λ a. length vector.now ≡ length a) atoms.now }
+    ensures { IsTrue result ↔ IsFree atoms.now vector.now }
+{
+    for atom in atoms {
+        if dominates(vector, atom.as_slice()) {
+            return false;
+        }
+    }
+    true
 }
 
-/// Puts what a vector grows to into the next level, as far as there is room.
+/// Puts what a vector grows to at one place into the next level, as far as there is room.
+fn grow_at(
+    alloc: Global,
+    equations: &Equations,
+    atoms: &[Nats],
+    vector: &[u64],
+    place: usize,
+    next: &mut Level,
+    room: usize,
+) -> Result<(), SearchFault>
+    requires places { length vector.now ≡ length equations.now }
+    requires short { sum vector.now ≤ 1048576 }
+    requires place { place < length equations.now }
+    requires atoms { All (λ a. length vector.now ≡ length a) atoms.now }
+    requires within { length next.old ≤ room }
+    ensures grown { OnOk result (Gathers (IsGrowthAt equations.now atoms.now vector.now place) next.old next.new) }
+    ensures within { OnOk result (length next.new ≤ room) }
+    ensures spent { IfErr result (IsSpent (Exceeds (λ q. Contains next.old q ⊎ IsGrowthAt equations.now atoms.now vector.now place q) room)) }
+{
+    if !equations.leads_back(vector, place) {
+        return Ok(());
+    }
+    let longer = raised(alloc, vector, place)?;
+    if !is_clear(atoms, longer.as_slice()) {
+        return Ok(());
+    }
+    next.insert_within(longer, room)
+}
+
+/// Puts what a vector grows to into the next level, as far as there is room. A solution grows to nothing.
 fn grow(
     alloc: Global,
     equations: &Equations,
@@ -26,26 +75,36 @@ fn grow(
     vector: &[u64],
     next: &mut Level,
     room: usize,
-) -> Result<(), SearchFault> {
+) -> Result<(), SearchFault>
+    requires places { length vector.now ≡ length equations.now }
+    requires short { sum vector.now ≤ 1048576 }
+    requires atoms { All (λ a. length vector.now ≡ length a) atoms.now }
+    requires within { length next.old ≤ room }
+    ensures grown { OnOk result (Gathers (IsGrowth equations.now atoms.now vector.now) next.old next.new) }
+    ensures within { OnOk result (length next.new ≤ room) }
+    ensures spent { IfErr result (IsSpent (Exceeds (λ q. Contains next.old q ⊎ IsGrowth equations.now atoms.now vector.now q) room)) }
+{
     for place in 0..equations.places() {
-        if equations.leads_back(vector, place) {
-            let longer = raised(alloc, vector, place)?;
-            if is_clear(atoms, longer.as_slice()) {
-                next.insert_within(longer, room)?;
-            }
-        }
+        grow_at(alloc, equations, atoms, vector, place, next, room)?;
     }
     Ok(())
 }
 
-/// The level after one, as far as there is room. A solution has products of zero with all columns, so it does not grow.
+/// The level after one, as far as there is room.
 fn next_level(
     alloc: Global,
     equations: &Equations,
     atoms: &[Nats],
     level: &[Nats],
     room: usize,
-) -> Result<Level, SearchFault> {
+) -> Result<Level, SearchFault>
+    requires places { All (λ p. length p ≡ length equations.now) level.now }
+    requires short { All (λ p. sum p ≤ 1048576) level.now }
+    requires atoms { All (λ a. length a ≡ length equations.now) atoms.now }
+    ensures grown { IfOk result (λ next. (q : List ℕ) → Contains next q ↔ IsGrowthOf equations.now atoms.now level.now q) }
+    ensures within { IfOk result (λ next. length next ≤ room) }
+    ensures spent { IfErr result (IsSpent (Exceeds (IsGrowthOf equations.now atoms.now level.now) room)) }
+{
     let mut next = Level::new(alloc);
     for vector in level {
         grow(alloc, equations, atoms, vector.as_slice(), &mut next, room)?;
@@ -54,49 +113,15 @@ fn next_level(
 }
 
 /// Puts the solutions of a level last in the list of atoms.
-fn note_atoms(equations: &Equations, level: &[Nats], atoms: &mut Rows) -> Result<(), AllocError> {
+fn note_atoms(equations: &Equations, level: &[Nats], atoms: &mut Level) -> Result<(), AllocError>
+    requires places { All (λ p. length p ≡ length equations.now) level.now }
+    requires short { All (λ p. sum p ≤ 1048576) level.now }
+    ensures { OnOk result (Gathers (λ q. Contains level.now q × IsSolution (rows_of equations.now) equations.now q) atoms.old atoms.new) }
+{
     for vector in level {
         if equations.is_solution(vector.as_slice()) {
-            atoms.push(vector.try_clone()?)?;
+            atoms.insert(vector.try_clone()?)?;
         }
     }
     Ok(())
-}
-
-/// The unit vectors, as far as there is room.
-fn first_level(alloc: Global, places: usize, room: usize) -> Result<Level, SearchFault> {
-    let mut level = Level::new(alloc);
-    for place in 0..places {
-        let zeros = vec![in alloc; 0; places]?;
-        level.insert_within(raised(alloc, &zeros, place)?, room)?;
-    }
-    Ok(level)
-}
-
-/// The vectors in ascending order.
-fn ascending(alloc: Global, rows: &[Nats]) -> Result<Rows, AllocError> {
-    let mut sorted = Vec::new(alloc);
-    for row in rows {
-        sorted.push(row.try_clone()?)?;
-    }
-    sorted.sort()?;
-    let mut answer = Rows::new(alloc);
-    for row in &sorted {
-        answer.push(row.try_clone()?)?;
-    }
-    Ok(answer)
-}
-
-/// The minimal nonzero solutions of the matrix with these columns, in ascending order.
-pub fn least_solutions(alloc: Global, columns: &[Ints], budget: u64) -> Result<Rows, SearchFault> {
-    let equations = Equations::new(alloc, columns)?;
-    let mut atoms = Rows::new(alloc);
-    let mut room = budget as usize;
-    let mut level = first_level(alloc, columns.len(), room)?;
-    while level.len() > 0 {
-        room -= level.len();
-        note_atoms(&equations, level.as_slice(), &mut atoms)?;
-        level = next_level(alloc, &equations, atoms.as_slice(), level.as_slice(), room)?;
-    }
-    Ok(ascending(alloc, atoms.as_slice())?)
 }
