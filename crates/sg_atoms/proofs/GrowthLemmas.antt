@@ -1,9 +1,10 @@
 -- What a vector grows to, gathered place by place.
-use Rattle.std.proofs.Common.{◌≡◌, ◌≢◌, ℕ, zero, suc, ◌+◌, ◌<◌, ◌≤◌, ℤ, pos, ◌<ℤ◌, List, [], ◌∷◌, ◌++◌, length, get_or, set, replicate, sum, refl, sym, ap, subst, ◌∙◌, inl, inr, arith}
+use Rattle.std.proofs.Common.{◌≡◌, ◌≢◌, ℕ, zero, suc, ◌+◌, ◌<◌, ◌≤◌, ℤ, pos, ◌<ℤ◌, List, [], ◌∷◌, ◌++◌, length, get_or, set, take, replicate, sum, refl, sym, ap, subst, ◌∙◌, inl, inr, arith}
 use Rattle.std.specs.Prelude.{◌⊎◌, ◌↔◌, All, AllPairs, Contains}
 use Rattle.std.proofs.lemmas.Bool.{cases_lt}
 use Rattle.std.proofs.lemmas.Int.{ints}
-use Rattle.std.proofs.lemmas.List.Elements.{Contains-push, Contains-append_left, Contains-push_cases, All-contains}
+use Rattle.std.proofs.lemmas.List.{take_more, get_or-take, length-take-le}
+use Rattle.std.proofs.lemmas.List.Elements.{Contains-get_or, Contains-push, Contains-append_left, Contains-push_cases, All-contains}
 use Rattle.sg_defs.specs.Vectors.{plus, IsBelow}
 use Rattle.sg_nonunique.specs.Counts.{Exceeds}
 use Rattle.sg_nonunique.specs.Places.{raise, unit}
@@ -13,7 +14,7 @@ use Rattle.sg_nonunique.proofs.PlaceLemmas.{plus-raise}
 use Rattle.sg_laws_finite.specs.Listed.{IsListing}
 use Rattle.sg_laws_finite.proofs.ElementLemmas.{all-from_contained}
 use Rattle.sg_laws_finite.proofs.CountLemmas.{exceeds-from_listing}
-use Rattle.sg_atoms.specs.Growth.{Gathers, IsFree, IsGrowth, IsGrowthAt, IsGrowthBefore}
+use Rattle.sg_atoms.specs.Growth.{Gathers, IsFree, IsGrowth, IsGrowthAt, IsGrowthBefore, IsGrowthOf}
 use Rattle.sg_atoms.specs.Levels.{Raises}
 use Rattle.sg_atoms.specs.Matrices.{rows_of}
 use Rattle.sg_atoms.specs.Sets.{AreDifferent, IsAdded}
@@ -124,9 +125,8 @@ gathers-longer columns atoms p place longer slice old new e inside is at back fr
 
 -- ---- vector by vector
 
--- what grows from the first n vectors
-abbrev pub IsGrowthOfFirst : List (List ℤ) → List (List ℕ) → List (List ℕ) → ℕ → List ℕ → Type 0
-IsGrowthOfFirst columns atoms level n q = IsGrowthOf columns atoms (take n level) q
+contains-take : {A : Type 0} (xs : List A) (n : ℕ) (x : A) → n ≤ length xs → Contains (take n xs) x → Contains xs x
+contains-take xs n x l h = (h.0, omega (arith, h.1, length-take-le n xs l), sym (get_or-take n xs h.0 x (omega (arith, h.1, length-take-le n xs l))) ∙ h.2)
 
 contains-nothing : (x : List ℕ) → Contains [] x → ⊥
 contains-nothing x h = omega (arith, h.1)
@@ -134,10 +134,57 @@ contains-nothing x h = omega (arith, h.1)
 -- the vectors in front and one more
 module _ (level : List (List ℕ)) (n : ℕ) (inside : n < length level) where
   pub front-before : (x : List ℕ) → Contains (take n level) x → Contains (take (n + 1) level) x
-  front-before x h = subst (λ l. Contains l x) (sym (take_more n level (get_or level n []) inside refl)) (Contains-append_left (take n level) (get_or level n [] ∷ []) x h)
+  front-before x h = subst (λ l. Contains l x) (sym (take_more level n [] inside)) (Contains-append_left (take n level) (get_or level n [] ∷ []) x h)
 
   pub front-here : Contains (take (n + 1) level) (get_or level n [])
-  front-here = subst (λ l. Contains l (get_or level n [])) (sym (take_more n level (get_or level n []) inside refl)) (Contains-push (take n level) (get_or level n []))
+  front-here = subst (λ l. Contains l (get_or level n [])) (sym (take_more level n [] inside)) (Contains-push (take n level) (get_or level n []))
 
   pub front-cases : (x : List ℕ) → Contains (take (n + 1) level) x → Contains (take n level) x ⊎ (get_or level n [] ≡ x)
-  front-cases x h = Contains-push_cases (take n level) (get_or level n []) x (subst (λ l. Contains l x) (take_more n level (get_or level n []) inside refl) h)
+  front-cases x h = Contains-push_cases (take n level) (get_or level n []) x (subst (λ l. Contains l x) (take_more level n [] inside) h)
+
+  -- what grows from one vector more
+  pub growth-more : (columns : List (List ℤ)) (atoms here new : List (List ℕ)) → ((q : List ℕ) → Contains here q ↔ IsGrowthOf columns atoms (take n level) q) →
+      Gathers (IsGrowth columns atoms (get_or level n [])) here new → (q : List ℕ) → Contains new q ↔ IsGrowthOf columns atoms (take (n + 1) level) q
+  growth-more columns atoms here new g h q = (
+    (λ c. elim ((h q).0 c) [
+      | inl was ↦ let b = (g q).0 was in (b.0, front-before b.0 b.1, b.2)
+      | inr now ↦ (get_or level n [], front-here, now)
+    ]),
+    (λ b. elim (front-cases b.0 b.1) [
+      | inl was ↦ (h q).1 (inl ((g q).1 (b.0, was, b.2)))
+      | inr e ↦ (h q).1 (inr (subst (λ p. IsGrowth columns atoms p q) (sym e) b.2))
+    ]),
+  )
+
+  front-inside : (x : List ℕ) → Contains (take n level) x → Contains level x
+  front-inside x h = contains-take level n x (omega (arith, inside)) h
+
+  -- too many in front are too many
+  pub growth-spent : (columns : List (List ℤ)) (atoms here : List (List ℕ)) (room : ℕ) → ((q : List ℕ) → Contains here q ↔ IsGrowthOf columns atoms (take n level) q) →
+      Exceeds (λ q. Contains here q ⊎ IsGrowth columns atoms (get_or level n []) q) room → Exceeds (IsGrowthOf columns atoms level) room
+  growth-spent columns atoms here room g = exceeds-wider (λ q. Contains here q ⊎ IsGrowth columns atoms (get_or level n []) q) (IsGrowthOf columns atoms level) room
+      (λ q c. elim c [
+        | inl was ↦ let b = (g q).0 was in (b.0, front-inside b.0 b.1, b.2)
+        | inr now ↦ (get_or level n [], Contains-get_or level n [] inside, now)
+      ])
+
+  -- one vector more that has S or has not
+  pub front-gathers : (S : List ℕ → Type 0) (old here new : List (List ℕ)) → Gathers (λ q. Contains (take n level) q × S q) old here →
+      Gathers (λ q. (q ≡ get_or level n []) × S q) here new → Gathers (λ q. Contains (take (n + 1) level) q × S q) old new
+  front-gathers S old here new g h q = (
+    (λ c. elim ((h q).0 c) [
+      | inl was ↦ elim ((g q).0 was) [ inl first ↦ inl first | inr b ↦ inr (front-before q b.0, b.1) ]
+      | inr now ↦ inr (subst (Contains (take (n + 1) level)) (sym now.0) front-here, now.1)
+    ]),
+    (λ c. elim c [
+      | inl first ↦ (h q).1 (inl ((g q).1 (inl first)))
+      | inr b ↦ elim (front-cases q b.0) [
+        | inl was ↦ (h q).1 (inl ((g q).1 (inr (was, b.1))))
+        | inr e ↦ (h q).1 (inr (sym e, b.1))
+      ]
+    ]),
+  )
+
+-- before the first vector there is nothing
+pub growth-none : (columns : List (List ℤ)) (atoms level : List (List ℕ)) (q : List ℕ) → Contains [] q ↔ IsGrowthOf columns atoms [] q
+growth-none columns atoms level q = ((λ c. absurd (contains-nothing q c)), (λ b. absurd (contains-nothing b.0 b.1)))

@@ -24,7 +24,7 @@ pub returns-clause-grown : goal.returns-clause-grown
 returns-clause-grown c =
     on_ok_weaker c.insert_within.result
     (gathers-longer c.args.equations.now c.args.atoms.now c.args.vector.now c.args.place c.in_ok-longer.longer c.as_slice.result.now c.args.next.now c.insert_within.new.self
-      c.requires.places c.requires.place c.in_ok-longer.ensures c.as_slice.ensures (c.if-not-leads_back.ensures.0 refl) (c.if-not-is_clear.ensures.0 refl))
+    c.requires.places c.requires.place c.in_ok-longer.ensures c.as_slice.ensures (c.if-not-leads_back.ensures.0 refl) (c.if-not-is_clear.ensures.0 refl))
     c.insert_within.ensures.ok
 
 pub returns-clause-spent : goal.returns-clause-spent
@@ -40,5 +40,5 @@ returns-clause-spent c =
     (spent-weaker (λ (h : IsAdded old c.in_ok-longer.longer new × (c.args.room + 1 ≤ length new) × AreDifferent new).
     gathered-many (IsGrowthAt G A p c.args.place) old new c.args.room
     (gathers-longer G A p c.args.place c.in_ok-longer.longer c.as_slice.result.now old new c.requires.places c.requires.place c.in_ok-longer.ensures c.as_slice.ensures
-      (c.if-not-leads_back.ensures.0 refl) (c.if-not-is_clear.ensures.0 refl) h.0) h.2 h.1))
+    (c.if-not-leads_back.ensures.0 refl) (c.if-not-is_clear.ensures.0 refl) h.0) h.2 h.1))
     c.insert_within.ensures.spent
