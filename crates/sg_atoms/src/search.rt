@@ -2,11 +2,9 @@
 
 ghost use Rattle.std.specs.Prelude.{◌≡◌, ◌≤◌, ◌<◌, ◌+◌, ◌^◌, ◌↔◌, ◌⊎◌, [], ℕ, List, length, sum, slice_index, All, Contains, IfOk, IfErr, OnOk, IsTrue};
 ghost use Rattle.sg_nonunique.specs.Counts.{Exceeds};
-ghost use Rattle.sg_nonunique.specs.Equations.{IsSolution};
 ghost use Rattle.sg_nonunique.specs.Places.{raise};
 ghost use Rattle.sg_atoms.specs.Faults.{IsSpent};
 ghost use Rattle.sg_atoms.specs.Growth.{Gathers, IsFree, IsGrowth, IsGrowthAt, IsGrowthOf};
-ghost use Rattle.sg_atoms.specs.Matrices.{rows_of};
 
 use crate::equations::Equations;
 use crate::fault::SearchFault;
@@ -110,18 +108,4 @@ fn next_level(
         grow(alloc, equations, atoms, vector.as_slice(), &mut next, room)?;
     }
     Ok(next)
-}
-
-/// Puts the solutions of a level last in the list of atoms.
-fn note_atoms(equations: &Equations, level: &[Nats], atoms: &mut Level) -> Result<(), AllocError>
-    requires places { All (λ p. length p ≡ length equations.now) level.now }
-    requires short { All (λ p. sum p ≤ 1048576) level.now }
-    ensures { OnOk result (Gathers (λ q. Contains level.now q × IsSolution (rows_of equations.now) equations.now q) atoms.old atoms.new) }
-{
-    for vector in level {
-        if equations.is_solution(vector.as_slice()) {
-            atoms.insert(vector.try_clone()?)?;
-        }
-    }
-    Ok(())
 }
