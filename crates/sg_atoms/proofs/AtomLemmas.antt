@@ -1,19 +1,19 @@
 -- Below each nonzero solution lies an atom, so that known atoms tell whether a vector is free.
-use Rattle.std.proofs.Common.{◌≡◌, ◌≢◌, ℕ, zero, suc, ◌+◌, ◌<◌, ◌≤◌, ℤ, pos, ◌<ℤ◌, List, [], ◌∷◌, length, get_or, replicate, sum, refl, sym, ap, subst, ◌∙◌, inl, inr, arith}
-use Rattle.std.specs.Prelude.{◌⊎◌, ◌↔◌, Contains}
+use Rattle.std.proofs.Common.{◌≡◌, ◌≢◌, ℕ, zero, suc, ◌+◌, ◌<◌, ◌≤◌, ℤ, pos, List, length, get_or, replicate, sum, sym, ap, subst, ◌∙◌, inl, inr, arith}
+use Rattle.std.specs.Prelude.{◌⊎◌}
 use Rattle.std.proofs.lemmas.Bool.{cases_eq}
-use Rattle.sg_defs.specs.Vectors.{plus, IsBelow}
+use Rattle.sg_defs.specs.Vectors.{IsBelow}
 use Rattle.sg_defs.proofs.VectorLemmas.{length-plus}
 use Rattle.sg_nonunique.specs.Places.{unit}
-use Rattle.sg_nonunique.specs.Equations.{image_of, inner_product, IsSolution, IsAtom, GrowsTo, IsGrown}
+use Rattle.sg_nonunique.specs.Equations.{image_of, IsSolution, IsAtom, GrowsTo, IsGrown}
 use Rattle.sg_nonunique.proofs.SumLemmas.{sum-plus}
 use Rattle.sg_nonunique.proofs.PlaceLemmas.{length-unit, sum-unit}
 use Rattle.sg_nonunique.proofs.OrderLemmas.{below-here, below-then, sum-below}
 use Rattle.sg_laws_finite.proofs.SearchLemmas.{cons-decided, vectors-decided, some-in}
-use Rattle.sg_atoms.specs.Levels.{IsAtomBefore, Raises, IsClear}
+use Rattle.sg_atoms.specs.Levels.{Raises, IsClear}
 use Rattle.sg_atoms.proofs.IntegerLemmas.{integers-decided}
 use Rattle.sg_atoms.proofs.BelowLemmas.{nonzero-positive, below-less, below-unraised, under, under-exactly}
-use Rattle.sg_atoms.proofs.GrownLemmas.{length-grown, grown-positive, grown-apart, length-step, sum-step}
+use Rattle.sg_atoms.proofs.GrownLemmas.{length-grown, grown-apart, sum-step}
 
 module _ (r : ℕ) (columns : List (List ℤ)) where
   abbrev places : ℕ

@@ -1,14 +1,14 @@
 -- Vectors below another one: those of equal length are the same, a place where there is room may be raised, and all are listed.
-use Rattle.std.proofs.Common.{◌≡◌, ◌≢◌, ℕ, zero, suc, ◌+◌, ◌-◌, ◌<◌, ◌≤◌, List, [], ◌∷◌, length, get_or, replicate, sum, refl, sym, ap, subst, ◌∙◌, inl, inr, arith}
-use Rattle.std.specs.Prelude.{◌⊎◌, ◌↔◌, Contains}
+use Rattle.std.proofs.Common.{◌≡◌, ◌≢◌, ℕ, zero, suc, ◌+◌, ◌<◌, ◌≤◌, List, [], ◌∷◌, length, get_or, replicate, sum, refl, sym, ap, subst, ◌∙◌, inl, inr, arith}
+use Rattle.std.specs.Prelude.{◌↔◌, Contains}
 use Rattle.std.proofs.lemmas.Bool.{cases_lt, cases_eq}
 use Rattle.sg_defs.specs.Vectors.{plus, minus, IsBelow}
 use Rattle.sg_defs.proofs.VectorLemmas.{length-plus}
 use Rattle.sg_defs.proofs.ListLemmas.{contains-cases}
 use Rattle.sg_nonunique.specs.Places.{unit}
-use Rattle.sg_nonunique.proofs.SumLemmas.{zero_or_positive, sum-zeros, sum_positive, get_or-plus, sum-plus, plus-zeros, length-minus, get_or-minus}
-use Rattle.sg_nonunique.proofs.PlaceLemmas.{inside, length-unit, unit-same, unit-other, sum-unit}
-use Rattle.sg_nonunique.proofs.OrderLemmas.{below-then, plus-minus, sum-below}
+use Rattle.sg_nonunique.proofs.SumLemmas.{zero_or_positive, sum-zeros, sum_positive, get_or-plus, sum-plus, plus-zeros, length-minus}
+use Rattle.sg_nonunique.proofs.PlaceLemmas.{length-unit, unit-same, unit-other, sum-unit}
+use Rattle.sg_nonunique.proofs.OrderLemmas.{plus-minus, sum-below}
 use Rattle.sg_laws_finite.specs.Listing.{levels}
 use Rattle.sg_laws_finite.proofs.ElementLemmas.{contains-nil, here}
 use Rattle.sg_laws_finite.proofs.LevelLemmas.{from-levels, into-levels}

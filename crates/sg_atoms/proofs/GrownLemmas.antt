@@ -1,6 +1,6 @@
 -- How vectors grow: each is a unit vector or grew from one that is shorter by 1; one that is a solution is an atom, and each
 -- atom is grown (Contejean and Devie, An efficient incremental algorithm for solving systems of linear Diophantine equations, 1994).
-use Rattle.std.proofs.Common.{◌≡◌, ◌≢◌, ℕ, zero, suc, ◌+◌, ◌-◌, ◌<◌, ◌≤◌, ℤ, pos, ◌+ℤ◌, ◌<ℤ◌, List, [], ◌∷◌, length, get_or, replicate, sum, refl, sym, ap, subst, ◌∙◌, inl, inr, arith}
+use Rattle.std.proofs.Common.{◌≡◌, ◌≢◌, ℕ, zero, suc, ◌+◌, ◌-◌, ◌<◌, ℤ, pos, ◌+ℤ◌, ◌<ℤ◌, List, [], ◌∷◌, length, replicate, sum, refl, sym, ap, subst, ◌∙◌, inl, inr, arith}
 use Rattle.std.specs.Prelude.{◌⊎◌, ⊤}
 use Rattle.std.proofs.lemmas.Int.{ints}
 use Rattle.sg_defs.specs.Vectors.{plus, minus, IsBelow}

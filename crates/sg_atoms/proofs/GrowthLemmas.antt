@@ -1,21 +1,18 @@
 -- What a vector grows to, gathered place by place.
-use Rattle.std.proofs.Common.{◌≡◌, ◌≢◌, ℕ, zero, suc, ◌+◌, ◌<◌, ◌≤◌, ℤ, pos, ◌<ℤ◌, List, [], ◌∷◌, ◌++◌, length, get_or, set, take, replicate, sum, refl, sym, ap, subst, ◌∙◌, inl, inr, arith}
-use Rattle.std.specs.Prelude.{◌⊎◌, ◌↔◌, All, AllPairs, Contains}
+use Rattle.std.proofs.Common.{◌≡◌, ℕ, ◌+◌, ◌<◌, ◌≤◌, ℤ, pos, ◌<ℤ◌, List, [], ◌∷◌, ◌++◌, length, get_or, set, take, replicate, sym, ap, subst, ◌∙◌, inl, inr, arith}
+use Rattle.std.specs.Prelude.{◌⊎◌, ◌↔◌, Contains}
 use Rattle.std.proofs.lemmas.Bool.{cases_lt}
 use Rattle.std.proofs.lemmas.Int.{ints}
 use Rattle.std.proofs.lemmas.List.{take_more, get_or-take, length-take-le}
-use Rattle.std.proofs.lemmas.List.Elements.{Contains-get_or, Contains-push, Contains-append_left, Contains-push_cases, All-contains}
-use Rattle.sg_defs.specs.Vectors.{plus, IsBelow}
+use Rattle.std.proofs.lemmas.List.Elements.{Contains-get_or, Contains-push, Contains-append_left, Contains-push_cases}
+use Rattle.sg_defs.specs.Vectors.{plus}
 use Rattle.sg_nonunique.specs.Counts.{Exceeds}
 use Rattle.sg_nonunique.specs.Places.{raise, unit}
-use Rattle.sg_nonunique.specs.Equations.{image_of, inner_product, IsSolution}
+use Rattle.sg_nonunique.specs.Equations.{image_of, inner_product}
 use Rattle.sg_nonunique.proofs.SumLemmas.{get_or-zeros, plus-zeros}
 use Rattle.sg_nonunique.proofs.PlaceLemmas.{plus-raise}
-use Rattle.sg_laws_finite.specs.Listed.{IsListing}
-use Rattle.sg_laws_finite.proofs.ElementLemmas.{all-from_contained}
 use Rattle.sg_laws_finite.proofs.CountLemmas.{exceeds-from_listing}
 use Rattle.sg_atoms.specs.Growth.{Gathers, IsFree, IsGrowth, IsGrowthAt, IsGrowthBefore, IsGrowthOf}
-use Rattle.sg_atoms.specs.Levels.{Raises}
 use Rattle.sg_atoms.specs.Matrices.{rows_of}
 use Rattle.sg_atoms.specs.Sets.{AreDifferent, IsAdded}
 use Rattle.sg_atoms.proofs.ProductLemmas.{solution-products}

@@ -1,15 +1,14 @@
 -- The grown vectors level by level: the next level grows from one level, and where a level is empty all levels are known.
-use Rattle.std.proofs.Common.{◌≡◌, ◌≢◌, ℕ, zero, suc, ◌+◌, ◌-◌, ◌<◌, ◌≤◌, ℤ, List, [], ◌∷◌, ◌++◌, length, replicate, sum, refl, sym, ap, subst, ◌∙◌, inl, inr, arith}
-use Rattle.std.specs.Prelude.{◌⊎◌, ◌↔◌, Contains, AllPairs}
-use Rattle.std.proofs.lemmas.Bool.{cases_lt, cases_order}
-use Rattle.std.proofs.lemmas.List.{length-append}
+use Rattle.std.proofs.Common.{◌≡◌, ◌≢◌, ℕ, zero, suc, ◌+◌, ◌-◌, ◌<◌, ◌≤◌, ℤ, List, [], ◌++◌, length, sum, sym, ap, subst, ◌∙◌, inl, inr, arith}
+use Rattle.std.specs.Prelude.{◌↔◌}
+use Rattle.std.proofs.lemmas.Bool.{cases_lt}
 use Rattle.std.proofs.lemmas.List.Elements.{Contains-append_left, Contains-append_right, Contains-append_cases}
 use Rattle.sg_nonunique.specs.Places.{unit}
 use Rattle.sg_nonunique.specs.Counts.{Exceeds}
 use Rattle.sg_nonunique.specs.Equations.{IsSolution, IsAtom, GrowsTo, IsGrown, AreColumns}
 use Rattle.sg_nonunique.proofs.PlaceLemmas.{sum-unit}
 use Rattle.sg_laws_finite.specs.Listed.{IsListing}
-use Rattle.sg_laws_finite.proofs.ElementLemmas.{contains-nil, pairs-append, all-from_contained}
+use Rattle.sg_laws_finite.proofs.ElementLemmas.{contains-nil, pairs-append}
 use Rattle.sg_laws_finite.proofs.CountLemmas.{exceeds-from_listing, listing-from_exceeds}
 use Rattle.sg_atoms.specs.Levels.{IsOnLevel, IsBeforeLevel, IsAtomBefore}
 use Rattle.sg_atoms.proofs.GrownLemmas.{grown-unit, grown-step, grown-cases, length-grown, grown-positive, grown-atom, atom-grown, sum-step}

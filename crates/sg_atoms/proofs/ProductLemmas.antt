@@ -1,12 +1,11 @@
 -- Sums of products place by place, and how large they are.
-use Rattle.std.proofs.Common.{◌≡◌, ℕ, zero, suc, ◌+◌, ◌*◌, ◌<◌, ◌≤◌, ◌^◌, ℤ, pos, negsuc, ◌+ℤ◌, ◌*ℤ◌, replicate, List, [], ◌∷◌, length, get_or, take, sum, map, unsigned_abs, refl, sym, ap, subst, ◌∙◌, inl, inr, arith}
-use Rattle.std.specs.Prelude.{All}
+use Rattle.std.proofs.Common.{◌≡◌, ℕ, zero, suc, ◌+◌, ◌*◌, ◌<◌, ◌≤◌, ℤ, pos, ◌+ℤ◌, ◌*ℤ◌, replicate, List, [], ◌∷◌, length, get_or, take, sum, unsigned_abs, refl, sym, ap, subst, ◌∙◌, inl, inr, arith}
 use Rattle.std.proofs.lemmas.List.Elements.{All-head, All-tail}
 use Rattle.std.proofs.lemmas.List.Sums.{sum_by-cons}
 use Rattle.std.proofs.lemmas.Int.{ints, unsigned_abs-mul}
 use native.Mathlib.Nat.{mul-le-mul, mul-le-mul_left, mul-le-mul_right}
 use Rattle.std.proofs.lemmas.List.{get_or-map, get_or_default, length-map}
-use borrow.Author.Differences.{up, down, same_in, product_is, sum_is_lem, abs_is}
+use borrow.Author.Differences.{same_in, product_is}
 use Rattle.sg_nonunique.specs.Equations.{AreColumns, image_of, inner_product, IsSolution}
 use Rattle.sg_atoms.specs.Matrices.{AreWithin, IsMatrix, weighted, products_with, products_of}
 use Rattle.sg_atoms.proofs.ImageLemmas.{weight_of, inner-image, inner-itself, inner-zeros, length-image}

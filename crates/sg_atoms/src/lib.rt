@@ -3,11 +3,11 @@
 //! A matrix is the list of its columns; contracts see `Columns` as that list, and a vector as a list of naturals. The
 //! definitions are those of `sg_nonunique` (`Equations`): a solution is a vector that the matrix sends to zero, an atom a
 //! nonzero one with no other below it, and the grown vectors are those that a search from the unit vectors passes through.
-//! The contract that the layer above uses: `least_solutions` lists exactly the atoms, or says that more vectors are grown
-//! than the budget allows.
 //!
 //! The laws: atoms are the grown solutions, and what grows from the vectors of one length is told by the atoms up to that
-//! length (`specs/Levels`). The search is that of Contejean and Devie (1994).
+//! length (`specs/Levels`; Contejean and Devie, 1994). The parts of the search: whether a vector is a solution, by the
+//! inner products of the columns (`equations`), and the level after one, which is told whole or is too large for the room
+//! that is left (`search`).
 #![tactic(auto)]
 
 mod columns;

@@ -1,7 +1,7 @@
-use Rattle.std.proofs.Common.{ℕ, List, length, refl, arith, rules}
+use Rattle.std.proofs.Common.{arith}
 use Rattle.std.proofs.lemmas.Result.{err_from_is_err_and}
 use Rattle.sg_atoms.proofs.FaultLemmas.{spent-weaker}
-use Rattle.sg_atoms.proofs.GrowthLemmas.{before-none, before-more, before-all, spent-at}
+use Rattle.sg_atoms.proofs.GrowthLemmas.{before-more, before-all, spent-at}
 use Rattle.sg_atoms.proofs.search.grow.Goals as goal
 
 pub returns-in_err-grow_at-clause-spent : goal.returns-in_err-grow_at-clause-spent

@@ -1,7 +1,7 @@
-use Rattle.std.proofs.Common.{◌≡◌, ◌<◌, ℕ, pos, [], length, get_or, refl, ap, ◌∙◌, arith}
+use Rattle.std.proofs.Common.{[], get_or, refl, ap, ◌∙◌, arith}
 use mir.Syntax.{w64}
 use mir.Val.{of_z}
-use Rattle.sg_atoms.specs.Matrices.{rows_of, IsMatrix}
+use Rattle.sg_atoms.specs.Matrices.{rows_of}
 use Rattle.sg_atoms.proofs.ProductLemmas.{solution-products, solution-from_products}
 use Rattle.sg_atoms.proofs.equations.Equations.is_solution.Goals as goal
 

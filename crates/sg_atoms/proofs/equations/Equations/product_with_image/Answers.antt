@@ -1,7 +1,7 @@
-use Rattle.std.proofs.Common.{◌≡◌, ℤ, List, [], length, get_or, sym, ap, subst, ◌∙◌}
+use Rattle.std.proofs.Common.{[], length, get_or, sym, ap, subst, ◌∙◌}
 use Rattle.std.proofs.lemmas.Int.{to_z-of_z}
 use mir.Syntax.{w64}
-use Rattle.sg_atoms.specs.Matrices.{rows_of, AreWithin, IsMatrix, products_with, weighted}
+use Rattle.sg_atoms.specs.Matrices.{rows_of, AreWithin, IsMatrix, weighted}
 use Rattle.sg_atoms.proofs.ProductLemmas.{read-row, row-long, row-small, weighted-image}
 use Rattle.sg_atoms.proofs.equations.Equations.product_with_image.Goals as goal
 
