@@ -6,4 +6,6 @@ use Rattle.sg_glue.specs.declared.limits.TheConstants.{GLUING_GENERATORS, GLUING
 -- so few minimal generators, and so small a span
 pub record IsGluable (G : List ℕ) : Type 0 where
   pub generators : length G ≤ GLUING_GENERATORS
-  pub span : (s : ℕ) → IsSpan G s → s ≤ GLUING_SPAN_LIMIT
+  pub span : ℕ
+  pub is_span : IsSpan G span
+  pub short : span ≤ GLUING_SPAN_LIMIT

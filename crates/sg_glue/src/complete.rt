@@ -15,5 +15,5 @@ pub fn is_complete_intersection(t: &Table, relations: &Presentation) -> bool
     requires { IsCanonical (◌<◌) (IsFactorization t.now) relations.now }
     ensures { IsTrue result ↔ IsCompleteIntersection t.now }
 {
-    relations.len() + 1 == t.generators().len()
+    relations.len() == t.generators().len() - 1
 }

@@ -16,5 +16,6 @@ pub const GLUING_SPAN_LIMIT: u64 = 16_777_216;
 pub fn is_gluable(t: &Table) -> bool
     ensures { IsTrue result ↔ IsGluable t.now }
 {
-    t.generators().len() as u64 <= GLUING_GENERATORS && t.span() <= GLUING_SPAN_LIMIT
+    let few = t.generators().len() as u64 <= GLUING_GENERATORS;
+    few && t.span() <= GLUING_SPAN_LIMIT
 }
