@@ -28,7 +28,7 @@ fn refusal(
 #[test]
 fn words_are_refused(rt: HostRuntime) -> Result<(), Fail> {
     let alloc = rt.alloc();
-    for word in ["", "-", "-x", "--budget", "--stats", "--cache=1"] {
+    for word in ["", "-", "-x", "--budget", "--stats=1", "--cache"] {
         assert!(rt; refusal(alloc, &[word], b"", b"sgps: usage\n")? == Some(Cause::Usage));
     }
     assert!(rt; refusal(alloc, &["f", "g"], b"", b"sgps: usage\n")? == Some(Cause::Usage));
