@@ -26,3 +26,7 @@ least-same a r P Q to from h N = (
   (λ l. let s = (h N).0 l in (s.0, to N s.1)),
   (λ s. (h N).1 (s.0, from N s.1)),
 )
+
+-- all conditions
+pub least-all : (a r k n : ℕ) (Q : ℕ → ℕ → Type 0) → k ≡ n → IsLeastFrom a (λ N. (j : ℕ) → j < k → Q j N) r → IsLeastFrom a (λ N. (j : ℕ) → j < n → Q j N) r
+least-all a r k n Q e h = subst (λ m. IsLeastFrom a (λ N. (j : ℕ) → j < m → Q j N) r) e h

@@ -1,3 +1,6 @@
 pub mod DistanceLemmas
 pub mod MinimalLemmas
 pub mod LeastLemmas
+pub mod NearestLemmas
+pub mod RowLemmas
+pub mod DegreeLemmas

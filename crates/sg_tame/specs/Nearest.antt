@@ -26,9 +26,13 @@ pub record HavePositive (e : ℕ) (rows : List (List ℕ)) (i : ℕ) : Type 0 wh
   pub inside : i < e
   pub some : (k : ℕ) × (k < length rows) × (0 < slice_index (slice_index_or rows k []) i)
 
--- so it is for each row that uses only generators in whose Apery sets the member w lies
+-- so it is for the row at k, where that uses only generators in whose Apery sets the member w lies
+abbrev pub IsRowNear : List ℕ → ℕ → List (List ℕ) → ℕ → ℕ → ℕ → Type 0
+IsRowNear G w rows i k N = IsUsedMinimally G w (slice_index_or rows k []) → IsNearRow rows k i N
+
+-- for each row
 abbrev pub AreRowsNear : List ℕ → ℕ → List (List ℕ) → ℕ → ℕ → Type 0
-AreRowsNear G w rows i N = (k : ℕ) → k < length rows → IsUsedMinimally G w (slice_index_or rows k []) → IsNearRow rows k i N
+AreRowsNear G w rows i N = (k : ℕ) → k < length rows → IsRowNear G w rows i k N
 
 -- all factorizations of v, and their distances are told
 pub record AreAllOf (G : List ℕ) (v : ℕ) (rows : List (List ℕ)) : Type 0 where

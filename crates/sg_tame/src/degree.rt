@@ -1,11 +1,12 @@
 //! The tame degree.
 
-ghost use Rattle.std.specs.Prelude.{◌≡◌, ◌<◌, ◌≤◌, ℕ, [], length, slice_index, slice_index_or, IfOk, OnOk, IfErr};
+ghost use Rattle.std.specs.Prelude.{◌<◌, ◌^◌, length, IfOk, OnOk, IfErr};
 ghost use Rattle.sg_apery.specs.Fit.{IsNarrow};
-ghost use Rattle.sg_defs.specs.Membership.{IsMember};
+ghost use Rattle.sg_defs.specs.Membership.{IsFactorization};
 ghost use Rattle.sg_factor.specs.Faults.{IsRefused};
+ghost use Rattle.sg_nonunique.specs.Counts.{Exceeds};
 ghost use Rattle.sg_tame.specs.Answers.{HasTooMany, IsTameAnswer, IsWithinLimit};
-ghost use Rattle.sg_tame.specs.Nearest.{AreAllOf, AreNearAt, AreNearBy, AreRowsNear, HavePositive, IsLeastFrom};
+ghost use Rattle.sg_tame.specs.Nearest.{AreAllOf, AreNearAt, AreNearBy, AreRowsNear, HavePositive, IsLeastFrom, IsRowNear};
 ghost use Rattle.sg_tame.specs.Tame.{IsTame};
 
 use crate::answer::TameAnswer;
@@ -17,17 +18,34 @@ use sg_factor::{FactorFault, factorizations_within};
 use sg_nat::Nats;
 use std::alloc::{AllocError, Global};
 
-/// The greater of `enough` and the greatest, over the vectors that use only generators in whose Apery sets the member
-/// lies, of the least distance to one with a positive number at the place.
+/// The greater of `enough` and the least distance from one of the vectors to one with a positive number at the place,
+/// where that vector uses only generators in whose Apery sets the member lies.
+fn raised_to(
+    t: &Table,
+    member: u64,
+    rows: &[Nats],
+    from: usize,
+    place: usize,
+    enough: u64,
+) -> u64
+    requires positive { HavePositive (length t.now) rows.now place }
+    requires from { from < length rows.now }
+    ensures { IsLeastFrom enough (IsRowNear t.now member rows.now place from) result }
+{
+    if !is_used_minimally(t, member, rows[from].as_slice()) {
+        return enough;
+    }
+    nearest(rows, from, place, enough)
+}
+
+/// The same over all vectors.
 fn raised_from(t: &Table, member: u64, rows: &[Nats], place: usize, enough: u64) -> u64
     requires { HavePositive (length t.now) rows.now place }
     ensures { IsLeastFrom enough (AreRowsNear t.now member rows.now place) result }
 {
     let mut greatest = enough;
     for from in 0..rows.len() {
-        if is_used_minimally(t, member, rows[from].as_slice()) {
-            greatest = nearest(rows, from, place, greatest);
-        }
+        greatest = raised_to(t, member, rows, from, place, greatest);
     }
     greatest
 }
@@ -51,10 +69,22 @@ fn raised_by(t: &Table, v: u64, rows: &[Nats], enough: u64) -> u64
     ensures { IsLeastFrom enough (AreNearBy t.now v) result }
 {
     let mut greatest = enough;
-    for place in 0..t.generators().len() {
+    let places = t.generators().len();
+    for place in 0..places {
         greatest = raised_at(t, v, rows, place, greatest);
     }
     greatest
+}
+
+/// The same for a number whose factorizations are listed first.
+fn raised_over(alloc: Global, t: &Table, v: u64, enough: u64) -> Result<u64, FactorFault>
+    requires { v < 2 ^ 63 }
+    ensures degree { IfOk result (IsLeastFrom enough (AreNearBy t.now v)) }
+    ensures few { OnOk result (Exceeds (IsFactorization t.now v) COMPARED_LIMIT → ⊥) }
+    ensures many { IfErr result (IsRefused (Exceeds (IsFactorization t.now v) COMPARED_LIMIT)) }
+{
+    let rows = factorizations_within(alloc, t, v, COMPARED_LIMIT)?;
+    Ok(raised_by(t, v, rows.as_slice(), enough))
 }
 
 /// The tame degree, where no number that is looked at has too many factorizations. Each is looked at once.
@@ -69,8 +99,7 @@ fn degree(alloc: Global, t: &Table) -> Result<u64, FactorFault>
     let mut greatest = 0;
     for v in 0..end {
         if is_needed(t, v) {
-            let rows = factorizations_within(alloc, t, v, COMPARED_LIMIT)?;
-            greatest = raised_by(t, v, rows.as_slice(), greatest);
+            greatest = raised_over(alloc, t, v, greatest)?;
         }
     }
     Ok(greatest)

@@ -1,6 +1,6 @@
 //! Which numbers are looked at, and which of their factorizations.
 
-ghost use Rattle.std.specs.Prelude.{◌≡◌, ◌<◌, ◌↔◌, ℕ, length, slice_index, IsTrue};
+ghost use Rattle.std.specs.Prelude.{◌≡◌, ◌<◌, ◌↔◌, length, IsTrue};
 ghost use Rattle.sg_omega.specs.Lengths.{IsLowered};
 ghost use Rattle.sg_tame.specs.Needed.{IsInSomeAperySet, IsNeeded, IsNeededAt, IsUsedMinimally};
 
@@ -52,6 +52,16 @@ pub fn is_needed(t: &Table, v: u64) -> bool
     false
 }
 
+/// Whether the generator is used, and can be taken away from the member.
+fn is_spare(t: &Table, member: u64, times: u64, generator: u64) -> bool
+    ensures { IsTrue result ↔ ((0 < times) × IsLowered t.now member generator) }
+{
+    if times == 0 {
+        return false;
+    }
+    is_lowered(t, member, generator)
+}
+
 /// Whether the vector uses only generators in whose Apery sets the member lies.
 pub fn is_used_minimally(t: &Table, member: u64, vector: &[u64]) -> bool
     requires { length vector.now ≡ length t.now }
@@ -59,7 +69,7 @@ pub fn is_used_minimally(t: &Table, member: u64, vector: &[u64]) -> bool
 {
     let generators = t.generators().as_slice();
     for place in 0..vector.len() {
-        if vector[place] > 0 && is_lowered(t, member, generators[place]) {
+        if is_spare(t, member, vector[place], generators[place]) {
             return false;
         }
     }
