@@ -4,3 +4,5 @@ pub mod LeastLemmas
 pub mod NearestLemmas
 pub mod RowLemmas
 pub mod DegreeLemmas
+pub mod LeastDistances
+pub mod TameExists
