@@ -11,7 +11,7 @@ use Rattle.sg_tame.specs.declared.limits.TheConstants.{COMPARED_LIMIT, TAME_LIMI
 use Rattle.sg_tame.proofs.DegreeLemmas.{needed-below, needed-from_minimal, tame-from_least, within-limit}
 use Rattle.sg_tame.proofs.LeastLemmas.{least-none, least-met, least-more}
 use Rattle.sg_tame.proofs.degree.degree.Goals as goal
-use Rattle.sg_tame.proofs.degree.degree.Goals.{then-is_needed+in_ok-raised_over, else-is_needed}
+use Rattle.sg_tame.proofs.degree.degree.Goals.{then-is_needed+in_ok-greatest, else-is_needed}
 
 pub overflow_add-end : goal.overflow_add-end
 overflow_add-end c =
@@ -25,8 +25,8 @@ loop-v-init c = record {
   few = λ u l. absurd (omega (arith, l));
 }
 
-pub raised_over-requires : goal.raised_over-requires
-raised_over-requires c =
+pub raised_over-greatest-requires : goal.raised_over-greatest-requires
+raised_over-greatest-requires c =
     let G = c.args.t.now in
     let same : c.as_slice-generators.result.now ≡ G = c.as_slice-generators.ensures ∙ c.generators.ensures.same in
     omega (arith, c.loop-v-test.true, ap (λ (xs : List ℕ). get_or xs (length xs - 1) 0) same, within-limit G c.span.result c.requires c.span.ensures)
@@ -39,9 +39,9 @@ loop-v-preserved c =
     let Q : ℕ → ℕ → Type 0 = λ u N. AreNearBy G u N in
     let F : ℕ → Type 0 = λ u. IsNeeded G u → Exceeds (IsFactorization G u) COMPARED_LIMIT → ⊥ in
     elim c.if-is_needed.branch [
-      | then-is_needed+in_ok-raised_over w ↦ record {
-        degree = rw w.greatest-is (least-more 0 c.loop-v.greatest w.in_ok-raised_over.field-0.0 v Q i.degree w.in_ok-raised_over.ensures.degree);
-        few = below_more F v i.few (λ n more. w.in_ok-raised_over.ensures.few more);
+      | then-is_needed+in_ok-greatest w ↦ record {
+        degree = rw w.greatest-is (least-more 0 c.loop-v.greatest _ v Q i.degree w.in_ok-greatest.ensures.degree);
+        few = below_more F v i.few (λ n more. w.in_ok-greatest.ensures.few more);
       }
       | else-is_needed w ↦ record {
         degree = rw w.greatest-is (least-more 0 c.loop-v.greatest c.loop-v.greatest v Q i.degree
@@ -51,12 +51,12 @@ loop-v-preserved c =
       }
     ]
 
-pub returns-in_err-raised_over-clause-many : goal.returns-in_err-raised_over-clause-many
-returns-in_err-raised_over-clause-many c =
+pub returns-in_err-greatest-clause-many : goal.returns-in_err-greatest-clause-many
+returns-in_err-greatest-clause-many c =
     let G = c.args.t.now in
     let p = err_from_is_err_and c.from_residual.result c.from_residual.ensures.1 in
     let n = c.is_needed.ensures.0 c.if-is_needed.true in
-    let many = refused-weaker (λ (h : Exceeds (IsFactorization G c.loop-v.v) COMPARED_LIMIT). let r : HasTooMany G = (c.loop-v.v, n, h) in r) c.in_err-raised_over.field-0.0 c.in_err-raised_over.ensures.many in
+    let many = refused-weaker (λ (h : Exceeds (IsFactorization G c.loop-v.v) COMPARED_LIMIT). let r : HasTooMany G = (c.loop-v.v, n, h) in r) c.in_err-greatest.field-0.0 c.in_err-greatest.ensures.many in
     rw (p.1, p.2) many
 
 pub returns-clause-degree : goal.returns-clause-degree

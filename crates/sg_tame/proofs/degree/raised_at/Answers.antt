@@ -7,8 +7,8 @@ use Rattle.sg_tame.proofs.LeastLemmas.{least-met, least-same}
 use Rattle.sg_tame.proofs.RowLemmas.{have-positive, near-from_rows, rows-from_near}
 use Rattle.sg_tame.proofs.degree.raised_at.Goals as goal
 
-pub bounds-as_slice : goal.bounds-as_slice
-bounds-as_slice c = omega (arith, c.requires.place, ap length (c.as_slice.ensures ∙ c.generators.ensures.same))
+pub bounds-as_slice-place : goal.bounds-as_slice-place
+bounds-as_slice-place c = omega (arith, c.requires.place, ap length (c.as_slice.ensures ∙ c.generators.ensures.same))
 
 pub overflow_sub-v : goal.overflow_sub-v
 overflow_sub-v c = let low = c.is_lowered.ensures.0 c.if-not-is_lowered.false in omega (arith, low.1)

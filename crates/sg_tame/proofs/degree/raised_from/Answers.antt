@@ -8,7 +8,7 @@ loop-from-init c = least-none c.args.enough (IsRowNear c.args.t.now c.args.membe
 
 pub loop-from-preserved : goal.loop-from-preserved
 loop-from-preserved c =
-    least-more c.args.enough c.loop-from.greatest c.raised_to.result c.loop-from.from (IsRowNear c.args.t.now c.args.member c.args.rows.now c.args.place) c.loop-from.invariant c.raised_to.ensures
+    least-more c.args.enough c.loop-from.greatest c.raised_to-greatest.result c.loop-from.from (IsRowNear c.args.t.now c.args.member c.args.rows.now c.args.place) c.loop-from.invariant c.raised_to-greatest.ensures
 
 pub returns : goal.returns
 returns c =
