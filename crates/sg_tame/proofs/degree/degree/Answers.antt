@@ -25,8 +25,8 @@ loop-v-init c = record {
   few = λ u l. absurd (omega (arith, l));
 }
 
-pub raised_over-greatest-requires : goal.raised_over-greatest-requires
-raised_over-greatest-requires c =
+pub raised_over-requires : goal.raised_over-requires
+raised_over-requires c =
     let G = c.args.t.now in
     let same : c.as_slice-generators.result.now ≡ G = c.as_slice-generators.ensures ∙ c.generators.ensures.same in
     omega (arith, c.loop-v-test.true, ap (λ (xs : List ℕ). get_or xs (length xs - 1) 0) same, within-limit G c.span.result c.requires c.span.ensures)
