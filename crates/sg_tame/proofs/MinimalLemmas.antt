@@ -27,8 +27,7 @@ module _ (G : List ℕ) (N : ℕ) where
       let back : plus y d ≡ z = plus-minus y z b in
       let long : length d ≡ length G = length-minus z y (sym b.0) ∙ f.places in
       let as_y : length y ≡ length d = b.0 ∙ f.places ∙ sym long in
-      let as_w : length w ≡ length d = near.1.places ∙ sym long in
-      (
+      let as_w : length w ≡ length d = near.1.places ∙ sym long in (
         plus w d,
         record {
           places = length-plus w d as_w ∙ near.1.places;

@@ -43,8 +43,7 @@ module _ (G : List ℕ) (v i w : ℕ) (rows : List (List ℕ)) (all : AreAllOf G
       let at = row-of z f in
       let rest : m.rest ≡ w = omega (arith, m.value, ev, e) in
       let used : IsUsedMinimally G w z = λ j some y q there. m.minimal j y some (q ∙ sym rest) there in
-      let near = h at.0 at.1 (subst (IsUsedMinimally G w) (sym at.2) used) in
-      (
+      let near = h at.0 at.1 (subst (IsUsedMinimally G w) (sym at.2) used) in (
         slice_index_or rows near.0 [],
         is-row near.0 near.1,
         near.2.0,
@@ -58,8 +57,7 @@ module _ (G : List ℕ) (v i w : ℕ) (rows : List (List ℕ)) (all : AreAllOf G
       let value : value_of G z ≡ get_or G i 0 + w = omega (arith, f.value, e) in
       let m : IsMinimalAbove G (get_or G i 0) z = record { places = f.places; rest = w; member = member; value = value; minimal = λ j y some q there. used j some y q there } in
       let near = h z m f.value in
-      let at = row-of near.0 near.1 in
-      (
+      let at = row-of near.0 near.1 in (
         at.0,
         at.1,
         (subst (λ y. 0 < get_or y i 0) (sym at.2) near.2, subst (λ y. distance z y ≤ N) (sym at.2) near.3),

@@ -11,8 +11,8 @@ ghost use Rattle.sg_tame.specs.Tame.{IsTame};
 
 use crate::answer::TameAnswer;
 use crate::limits::COMPARED_LIMIT;
-use crate::needed::{is_lowered, is_needed, is_used_minimally};
 use crate::nearest::nearest;
+use crate::needed::{is_lowered, is_needed, is_used_minimally};
 use sg_apery::Table;
 use sg_factor::{FactorFault, factorizations_within};
 use sg_nat::Nats;
@@ -20,14 +20,7 @@ use std::alloc::{AllocError, Global};
 
 /// The greater of `enough` and the least distance from one of the vectors to one with a positive number at the place,
 /// where that vector uses only generators in whose Apery sets the member lies.
-fn raised_to(
-    t: &Table,
-    member: u64,
-    rows: &[Nats],
-    from: usize,
-    place: usize,
-    enough: u64,
-) -> u64
+fn raised_to(t: &Table, member: u64, rows: &[Nats], from: usize, place: usize, enough: u64) -> u64
     requires positive { HavePositive (length t.now) rows.now place }
     requires from { from < length rows.now }
     ensures { IsLeastFrom enough (IsRowNear t.now member rows.now place from) result }

@@ -14,8 +14,8 @@ mod answer;
 mod degree;
 pub mod laws;
 mod limits;
-mod needed;
 mod nearest;
+mod needed;
 #[cfg(test)]
 mod tests;
 
