@@ -1,10 +1,10 @@
 -- Which numbers are looked at, and that they are all.
-use Rattle.std.proofs.Common.{◌≡◌, ℕ, zero, suc, ◌+◌, ◌-◌, ◌<◌, ◌≤◌, List, length, get_or, sym, ap, subst, ◌∙◌, inl, inr, ◌↔◌, refl, arith}
+use Rattle.std.proofs.Common.{◌≡◌, ℕ, zero, suc, ◌+◌, ◌-◌, ◌<◌, ◌≤◌, List, length, get_or, ap, subst, inl, inr, refl, arith}
 use Rattle.std.specs.Prelude.{ℤ, pos, negsuc, ◌+ℤ◌, ◌≤ℤ◌, All}
 use Rattle.std.proofs.lemmas.Bool.{cases_lt}
 use Rattle.std.proofs.lemmas.Int.{ints}
 use Rattle.sg_defs.specs.Invariants.{IsFrobenius}
-use Rattle.sg_defs.specs.Membership.{IsMember, IsMinimal, IsNumericalSemigroup}
+use Rattle.sg_defs.specs.Membership.{IsMinimal, IsNumericalSemigroup}
 use Rattle.sg_defs.specs.Vectors.{value_of}
 use Rattle.sg_defs.proofs.OneLemmas.{one-frobenius}
 use Rattle.sg_defs.proofs.VectorLemmas.{value_of-zeros}

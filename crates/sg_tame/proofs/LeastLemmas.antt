@@ -1,5 +1,5 @@
 -- The least number from another on that meets some conditions, which come one after the other.
-use Rattle.std.proofs.Common.{◌≡◌, ℕ, ◌+◌, ◌<◌, ◌≤◌, List, length, subst, below_more, ◌↔◌, arith}
+use Rattle.std.proofs.Common.{◌≡◌, ℕ, ◌+◌, ◌<◌, subst, below_more, arith}
 use Rattle.sg_tame.specs.Nearest.{IsLeastFrom}
 
 -- no condition

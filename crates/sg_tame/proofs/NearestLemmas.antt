@@ -1,6 +1,6 @@
 -- The least distance to the vectors before one.
-use Rattle.std.proofs.Common.{◌≡◌, ℕ, ◌+◌, ◌<◌, ◌≤◌, ◌^◌, List, [], length, sum, min, max, subst, sym, inl, inr, ◌↔◌, arith}
-use Rattle.std.specs.Prelude.{slice_index, slice_index_or}
+use Rattle.std.proofs.Common.{◌≡◌, ℕ, ◌+◌, ◌<◌, ◌≤◌, ◌^◌, List, [], length, min, max, subst, inl, inr, ◌↔◌, arith}
+use Rattle.std.specs.Prelude.{slice_index_or}
 use Rattle.std.proofs.lemmas.Bool.{cases_lt}
 use Rattle.sg_tame.specs.Nearest.{HavePositive, IsLeastFrom, IsNearRow, IsNearVector}
 use Rattle.sg_tame.proofs.DistanceLemmas.{distance-within}

@@ -1,6 +1,6 @@
 -- The rows of all factorizations of a number, read at their places.
-use Rattle.std.proofs.Common.{◌≡◌, ℕ, ◌+◌, ◌<◌, ◌≤◌, List, [], length, get_or, sym, ap, subst, ◌∙◌, arith}
-use Rattle.std.specs.Prelude.{Contains, slice_index_or}
+use Rattle.std.proofs.Common.{◌≡◌, ℕ, ◌+◌, ◌<◌, ◌≤◌, List, [], length, get_or, sym, subst, ◌∙◌, arith}
+use Rattle.std.specs.Prelude.{slice_index_or}
 use Rattle.std.proofs.lemmas.List.{get_or_default}
 use Rattle.std.proofs.lemmas.List.Elements.{Contains-get_or}
 use Rattle.sg_defs.specs.Membership.{IsFactorization, IsMember}
@@ -8,7 +8,7 @@ use Rattle.sg_defs.specs.Vectors.{value_of, distance}
 use Rattle.sg_nonunique.specs.Places.{raise}
 use Rattle.sg_nonunique.proofs.PlaceLemmas.{length-raise, raise-same, value_of-raise}
 use Rattle.sg_omega.specs.Minimal.{IsMinimalAbove}
-use Rattle.sg_tame.specs.Nearest.{AreAllOf, AreNearAt, AreRowsNear, HavePositive, IsNearRow}
+use Rattle.sg_tame.specs.Nearest.{AreAllOf, AreNearAt, AreRowsNear, HavePositive}
 use Rattle.sg_tame.specs.Needed.{IsUsedMinimally}
 
 -- where generator i is added to a member w

@@ -1,10 +1,10 @@
 -- The tame degree exists: minimal vectors have values up to a bound, so they are among finitely many.
-use Rattle.std.proofs.Common.{◌≡◌, ℕ, zero, suc, ◌+◌, ◌-◌, ◌<◌, ◌≤◌, List, [], ◌∷◌, ◌++◌, length, get_or, sum, refl, sym, ap, subst, inl, inr, arith}
+use Rattle.std.proofs.Common.{◌≡◌, ℕ, zero, suc, ◌+◌, ◌-◌, ◌<◌, ◌≤◌, List, [], ◌∷◌, ◌++◌, length, get_or, sum, ap, subst, inl, inr, arith}
 use Rattle.std.specs.Prelude.{◌⊎◌, ◌↔◌, All, Contains}
 use Rattle.std.proofs.lemmas.Bool.{cases_lt, cases_eq}
 use Rattle.std.proofs.lemmas.List.Elements.{Contains-append_left, Contains-append_right, Contains-append_cases}
 use Rattle.sg_defs.specs.Membership.{IsFactorization, IsMember, IsNumericalSemigroup}
-use Rattle.sg_defs.specs.Vectors.{value_of, distance}
+use Rattle.sg_defs.specs.Vectors.{value_of}
 use Rattle.sg_defs.proofs.DecidedLemmas.{member-decided}
 use Rattle.sg_defs.proofs.ListLemmas.{contains-cases}
 use Rattle.sg_defs.proofs.VectorLemmas.{value_of-zeros}

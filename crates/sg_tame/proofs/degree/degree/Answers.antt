@@ -1,13 +1,13 @@
-use Rattle.std.proofs.Common.{◌≡◌, ℕ, ◌+◌, ◌-◌, ◌<◌, List, length, get_or, sym, ap, subst, ◌∙◌, below_more, refl, arith}
+use Rattle.std.proofs.Common.{◌≡◌, ℕ, ◌-◌, List, length, get_or, sym, ap, subst, ◌∙◌, below_more, arith}
 use Rattle.std.proofs.lemmas.Bool.{false≢true}
 use Rattle.std.proofs.lemmas.Result.{err_from_is_err_and}
 use Rattle.sg_defs.specs.Membership.{IsFactorization}
 use Rattle.sg_nonunique.specs.Counts.{Exceeds}
 use Rattle.sg_factor.proofs.RefusalLemmas.{refused-weaker}
 use Rattle.sg_tame.specs.Answers.{HasTooMany}
-use Rattle.sg_tame.specs.Nearest.{AreNearBy, IsLeastFrom}
+use Rattle.sg_tame.specs.Nearest.{AreNearBy}
 use Rattle.sg_tame.specs.Needed.{IsNeeded}
-use Rattle.sg_tame.specs.declared.limits.TheConstants.{COMPARED_LIMIT, TAME_LIMIT}
+use Rattle.sg_tame.specs.declared.limits.TheConstants.{COMPARED_LIMIT}
 use Rattle.sg_tame.proofs.DegreeLemmas.{needed-below, needed-from_minimal, tame-from_least, within-limit}
 use Rattle.sg_tame.proofs.LeastLemmas.{least-none, least-met, least-more}
 use Rattle.sg_tame.proofs.degree.degree.Goals as goal

@@ -1,7 +1,6 @@
-use Rattle.std.proofs.Common.{◌≡◌, ◌+◌, ◌-◌, ℕ, get_or, length, sym, ap, subst, ◌∙◌, arith}
+use Rattle.std.proofs.Common.{◌≡◌, ◌+◌, ◌-◌, get_or, length, sym, ap, subst, ◌∙◌, arith}
 use Rattle.std.proofs.lemmas.Bool.{false≢true}
 use Rattle.sg_defs.specs.Membership.{IsMember}
-use Rattle.sg_omega.specs.Lengths.{IsLowered}
 use Rattle.sg_tame.specs.Nearest.{AreNearAt, AreRowsNear}
 use Rattle.sg_tame.proofs.LeastLemmas.{least-met, least-same}
 use Rattle.sg_tame.proofs.RowLemmas.{have-positive, near-from_rows, rows-from_near}

@@ -1,9 +1,9 @@
-use Rattle.std.proofs.Common.{◌≡◌, ℕ, ◌+◌, ◌<◌, ◌≤◌, ◌^◌, [], List, length, sum, sym, ap, subst, ◌∙◌, ◌↔◌, arith}
+use Rattle.std.proofs.Common.{ℕ, ◌+◌, ◌<◌, ◌≤◌, ◌^◌, [], List, length, sum, sym, ap, subst, ◌∙◌, ◌↔◌, arith}
 use Rattle.std.specs.Prelude.{slice_index_or}
 use Rattle.sg_factor.proofs.NoteLemmas.{read-row}
 use Rattle.sg_tame.specs.Nearest.{IsNearVector}
 use Rattle.sg_tame.specs.declared.nearest.TheConstants.{FAR}
-use Rattle.sg_tame.proofs.NearestLemmas.{IsLeastBefore, before-none, before-more, near-far, nearest-early, nearest-all}
+use Rattle.sg_tame.proofs.NearestLemmas.{before-none, before-more, near-far, nearest-early, nearest-all}
 use Rattle.sg_tame.proofs.nearest.nearest.Goals as goal
 
 pub loop-other-init : goal.loop-other-init
