@@ -24,7 +24,7 @@ fn each_attribute_is_counted(rt: HostRuntime) -> Result<(), Fail> {
     let numbers = store.pseudo_frobenius(rt.alloc(), id)?;
     assert_eq!(rt; numbers.as_slice(), [7].as_slice());
     let relations = store.presentation(rt.alloc(), id)?;
-    assert_eq!(rt; relations.as_slice()[0].value, 15);
+    assert_eq!(rt; relations.as_slice().len(), 1);
     let counts = store.attributes.counts();
     assert_eq!(rt; counts.tables_asked, 2);
     assert_eq!(rt; counts.tables_made, 1);
