@@ -9,3 +9,4 @@ pub mod MachineLemmas
 pub mod SetLemmas
 pub mod GrowthLemmas
 pub mod FaultLemmas
+pub mod NextLemmas
