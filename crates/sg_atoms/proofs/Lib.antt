@@ -9,4 +9,3 @@ pub mod MachineLemmas
 pub mod SetLemmas
 pub mod GrowthLemmas
 pub mod FaultLemmas
-pub mod NextLemmas
