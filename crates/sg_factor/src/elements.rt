@@ -18,8 +18,16 @@ use sg_apery::Table;
 use sg_nat::Rows;
 use std::alloc::Global;
 
-/// All factorizations of a natural, up to a limit.
-fn listed(alloc: Global, t: &Table, n: u64, limit: usize) -> Result<Rows, FactorFault>
+/// All factorizations of a natural below 2^63, in descending lexicographic order: they have as many places, and lengths
+/// that fit. For crates that set a limit of their own.
+///
+/// TooMany exactly where there are more than `limit`.
+pub fn factorizations_within(
+    alloc: Global,
+    t: &Table,
+    n: u64,
+    limit: usize,
+) -> Result<Rows, FactorFault>
     requires { n < 2 ^ 63 }
     ensures listed { IfOk result (ListsDescending (IsFactorization t.now n)) }
     ensures comparable { IfOk result AreComparable }
@@ -42,7 +50,7 @@ pub fn factorizations(alloc: Global, t: &Table, n: i64) -> Result<Rows, FactorFa
     if n < 0 {
         return Ok(Rows::new(alloc));
     }
-    listed(alloc, t, n as u64, FACTORIZATION_LIMIT)
+    factorizations_within(alloc, t, n as u64, FACTORIZATION_LIMIT)
 }
 
 /// The catenary degree of the factorizations of a natural, of which there are at most so many.
@@ -52,7 +60,7 @@ fn catenary_of_natural(alloc: Global, t: &Table, n: u64, limit: usize) -> Result
     ensures few { OnOk result (Exceeds (IsFactorization t.now n) limit → ⊥) }
     ensures many { IfErr result (IsRefused (Exceeds (IsFactorization t.now n) limit)) }
 {
-    let rows = listed(alloc, t, n, limit)?;
+    let rows = factorizations_within(alloc, t, n, limit)?;
     let degree = catenary_of(alloc, rows.as_slice())?;
     Ok(degree)
 }

@@ -8,7 +8,7 @@ use Rattle.sg_factor.specs.Faults.{IsRefused}
 use Rattle.sg_factor.specs.Nearness.{AreComparable}
 use Rattle.sg_factor.proofs.ComparableLemmas.{factorizations-comparable}
 use Rattle.sg_factor.proofs.RefusalLemmas.{refused-weaker, both-ok, listed-whole, listed-few, listed-many}
-use Rattle.sg_factor.proofs.elements.listed.Goals as goal
+use Rattle.sg_factor.proofs.elements.factorizations_within.Goals as goal
 
 pub returns-clause-listed : goal.returns-clause-listed
 returns-clause-listed c =

@@ -1,0 +1,8 @@
+pub mod DistanceLemmas
+pub mod MinimalLemmas
+pub mod LeastLemmas
+pub mod NearestLemmas
+pub mod RowLemmas
+pub mod DegreeLemmas
+pub mod LeastDistances
+pub mod TameExists

@@ -1,0 +1,5 @@
+pub mod Tame
+pub mod Needed
+pub mod Nearest
+pub mod Minimal
+pub mod Answers
