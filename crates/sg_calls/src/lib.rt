@@ -27,5 +27,3 @@ pub use operations::{calculate, combine, negate};
 pub use operator::Operator;
 pub use sg_rows::{CallFault, Fault};
 
-#[cfg(test)]
-mod tests;

@@ -20,5 +20,3 @@ pub use attributes::{Attributes, Counts};
 pub use ids::Ids;
 pub use store::Store;
 
-#[cfg(test)]
-mod tests;
