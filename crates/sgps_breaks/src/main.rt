@@ -18,7 +18,7 @@ use parts::{Part, parts_of, printed_within, writes_of};
 use sg_io::{MemSink, MemSource};
 use std::alloc::{AllocError, Global};
 use std::io;
-use trial::{Ended, Tally, ended};
+use trial::{Ended, Tally, end_of};
 
 /// How many bytes a read gives.
 const PIECE: usize = 7;
@@ -39,12 +39,12 @@ fn main(rt: HostRuntime) -> io::Result<()> {
 /// Each read fails in turn, the first call being the begin of the script and the last the one that tells its end: what
 /// was written is what the statements print that end inside the bytes read.
 fn failing_reads(alloc: Global, script: &[u8], parts: &[Part]) -> Result<Tally, AllocError> {
-    let calls = (script.len() / PIECE).saturating_add(3);
+    let calls = (script.len().saturating_add(PIECE - 1) / PIECE).saturating_add(2);
     let mut tally = Tally::default();
     for call in 0..calls {
         let mut source = MemSource::new(alloc, script, PIECE, &[call as u64])?;
         let mut out = MemSink::new(alloc, &[])?;
-        let ran = ended(alloc, &mut source, &mut out)?;
+        let ran = end_of(alloc, &mut source, &mut out)?;
         let bytes = PIECE.saturating_mul(call.saturating_sub(1));
         let told = Ended::new(alloc, 3, b"sgps: read fault\n")?;
         let printed = printed_within(alloc, parts, bytes)?;
@@ -59,7 +59,7 @@ fn failing_writes(alloc: Global, script: &[u8], parts: &[Part]) -> Result<Tally,
     for (number, begin) in writes_of(alloc, parts)?.iter().enumerate() {
         let mut source = MemSource::new(alloc, script, PIECE, &[])?;
         let mut out = MemSink::new(alloc, &[number as u64])?;
-        let ran = ended(alloc, &mut source, &mut out)?;
+        let ran = end_of(alloc, &mut source, &mut out)?;
         let told = Ended::new(alloc, 4, b"")?;
         let printed = printed_within(alloc, parts, *begin)?;
         tally.count(ran == told && out.bytes() == printed.as_slice());
@@ -74,7 +74,7 @@ fn fronts(alloc: Global, script: &[u8], parts: &[Part]) -> Result<Tally, AllocEr
     for end in 0..=script.len() {
         let mut source = MemSource::new(alloc, &script[..end], PIECE, &[])?;
         let mut out = MemSink::new(alloc, &[])?;
-        let ran = ended(alloc, &mut source, &mut out)?;
+        let ran = end_of(alloc, &mut source, &mut out)?;
         let told = told_of_front(alloc, parts, end)?;
         let printed = printed_within(alloc, parts, end)?;
         tally.count(ran == told && out.bytes() == printed.as_slice());
@@ -100,7 +100,7 @@ fn drips(alloc: Global, script: &[u8], parts: &[Part]) -> Result<Tally, AllocErr
     for piece in 1..10usize {
         let mut source = MemSource::new(alloc, script, piece, &[])?;
         let mut out = Drip::new(alloc);
-        let ran = ended(alloc, &mut source, &mut out)?;
+        let ran = end_of(alloc, &mut source, &mut out)?;
         let told = Ended::new(alloc, 0, b"")?;
         let printed = printed_within(alloc, parts, script.len())?;
         tally.count(ran == told && out.bytes() == printed.as_slice());

@@ -79,11 +79,7 @@ fn printed_by(alloc: Global, part: &str) -> Result<Vec<u8>, AllocError> {
 }
 
 /// What the statements print that end within so many bytes.
-pub fn printed_within(
-    alloc: Global,
-    parts: &[Part],
-    bytes: usize,
-) -> Result<Vec<u8>, AllocError> {
+pub fn printed_within(alloc: Global, parts: &[Part], bytes: usize) -> Result<Vec<u8>, AllocError> {
     let mut printed = Vec::new(alloc);
     for part in parts {
         if part.end <= bytes {

@@ -23,7 +23,7 @@ impl Ended {
 }
 
 /// How the run over this source ends that writes to this sink.
-pub fn ended<W: Sink>(
+pub fn end_of<W: Sink>(
     alloc: Global,
     source: &mut MemSource,
     out: &mut W,
