@@ -8,4 +8,6 @@ mod calls;
 #[cfg(test)]
 mod degrees;
 #[cfg(test)]
+mod numbers;
+#[cfg(test)]
 mod steps;
