@@ -3,11 +3,10 @@
 ghost use Rattle.std.specs.Prelude.{◌<◌, ◌≤◌, ◌+◌, ◌%◌, ◌↔◌, length, slice_index, EachIndex, IfOk, IsTrue};
 ghost use Rattle.sg_defs.specs.Membership.{Generates};
 ghost use Rattle.sg_classes.specs.Classes.{IsAboveEntry, IsClassList, IsKunz};
-ghost use Rattle.sg_tables.specs.Closed.{AreClassGenerators, IsClosedUnder};
-ghost use Rattle.sg_tables.specs.Spread.{IsSpread};
+ghost use Rattle.sg_tables.specs.Closed.{AreClassGenerators};
 
-use crate::minimal::{minimal_part, needed_part};
-use crate::spread::spread;
+use crate::filling::settle;
+use crate::minimal::minimal_part;
 use sg_classes::sort_distinct;
 use sg_nat::Nats;
 use std::alloc::{AllocError, Global};
@@ -38,48 +37,7 @@ fn class_generators(alloc: Global, list: &[u64]) -> Result<Vec<u64>, AllocError>
     Ok(entries)
 }
 
-/// Whether the sum of entry `class` and a generator is at least the entry of its class. The sum itself may not fit.
-fn leads_up(list: &[u64], generator: u64, class: usize) -> bool
-    requires { class < length list.now }
-    ensures { IsTrue result ↔ (slice_index list.now ((class + generator) % length list.now) ≤ slice_index list.now class + generator) }
-{
-    let modulus = list.len() as u64;
-    let target = (class as u64 + generator % modulus) % modulus;
-    list[target as usize].saturating_sub(generator) <= list[class]
-}
-
-/// Whether the list is closed under a generator. One that is at least the spread of the entries is tried at entry 0 alone.
-fn is_closed_under(list: &[u64], generator: u64, spread: u64) -> bool
-    requires not_empty { 0 < length list.now }
-    requires spread { IsSpread list.now spread }
-    ensures { IsTrue result ↔ IsClosedUnder list.now generator }
-{
-    if generator >= spread {
-        return leads_up(list, generator, 0);
-    }
-    for class in 0..list.len() {
-        if !leads_up(list, generator, class) {
-            return false;
-        }
-    }
-    true
-}
-
-/// Whether the list is closed under each generator.
-pub fn is_closed_under_each(list: &[u64], generators: &[u64]) -> bool
-    requires { 0 < length list.now }
-    ensures { IsTrue result ↔ EachIndex generators.now (λ k. IsClosedUnder list.now (slice_index generators.now k)) }
-{
-    let spread = spread(list);
-    for generator in generators {
-        if !is_closed_under(list, *generator, spread) {
-            return false;
-        }
-    }
-    true
-}
-
-/// Whether the list meets Kunz's conditions. They are tried at the entries that are no sum of two others.
+/// Whether the list meets Kunz's conditions: no sum of its entries lowers an entry.
 pub fn is_kunz(alloc: Global, list: &[u64]) -> Result<bool, AllocError>
     ensures { IfOk result (λ holds. IsTrue holds ↔ IsKunz list.now) }
 {
@@ -87,8 +45,10 @@ pub fn is_kunz(alloc: Global, list: &[u64]) -> Result<bool, AllocError>
         return Ok(false);
     }
     let entries = class_generators(alloc, list)?;
-    let part = needed_part(alloc, list, &entries)?;
-    Ok(is_closed_under_each(list, part.as_slice()))
+    let mut table = Vec::from_slice(alloc, list)?;
+    let mut summands = vec![in alloc; 0; list.len()]?;
+    settle(alloc, &mut table, &mut summands, &entries)?;
+    Ok(table.as_slice() == list)
 }
 
 /// The minimal generators of the semigroup of the numbers above their entries.
