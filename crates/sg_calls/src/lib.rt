@@ -20,6 +20,7 @@ mod membership;
 mod operations;
 mod operator;
 mod presentations;
+mod tames;
 
 pub use calls::{answer, perform};
 pub use command::{Command, Folding, Shared, Word, check_call, takes, word_named};
