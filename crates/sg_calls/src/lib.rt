@@ -27,4 +27,3 @@ pub use command::{Command, Folding, Shared, Word, check_call, takes, word_named}
 pub use operations::{calculate, combine, negate};
 pub use operator::Operator;
 pub use sg_rows::{CallFault, Fault};
-
