@@ -27,7 +27,7 @@ pub record Row : Type 1 where
   pub many : Type 0
   -- the budget of steps is spent
   pub budget : Type 0
-  -- this is asked for once none of the first three refusals comes; the others may take what was asked for
+  -- this is asked for once none of the first three refusals comes: what follows may be known from it alone
   pub late : List Asking
   -- this is the value
   pub value : Plain → Type 0
