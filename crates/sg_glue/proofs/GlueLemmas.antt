@@ -7,7 +7,7 @@ use Rattle.std.proofs.Math.Nat.{mul_comm, one-dvd, pos_of_dvd_of_pos, eq-zero_of
 use Rattle.std.proofs.lemmas.Bool.{cases_eq}
 use Rattle.std.proofs.lemmas.List.{append-nil}
 use Rattle.std.proofs.lemmas.List.Elements.{Contains-get_or, All-contains}
-use Rattle.std.proofs.lemmas.Nat.Gcd.{le_of_dvd, dvd_antisymm}
+use Rattle.std.proofs.lemmas.Nat.Gcd.{le_of_dvd, dvd_antisymm, dvd_trans}
 use Rattle.sg_defs.specs.Membership.{IsMember, IsNumericalSemigroup}
 use Rattle.sg_nat.specs.Arithmetic.{IsLcm}
 use Rattle.sg_nat.proofs.LcmLemmas.{IsLcm-by_gcd, same_from_IsLcm}
@@ -98,14 +98,23 @@ module _ (G : List ℕ) (s : IsNumericalSemigroup G) (A B : List ℕ) (c : IsCho
   }
 
   module _ (some : 0 < length B) (d e : ℕ) (gd : IsGcdOf A d) (ge : IsGcdOf B e) where
+    -- an entry is positive, and so is what divides it
+    positive : 0 < d
+    positive = pos_of_dvd_of_pos (All-contains (λ x. d ∣ x) A (get_or G 0 0) gd.divides c.first) (entry-positive G s (get_or G 0 0) (place-contains G 0 s.not_empty))
+
     coprime : IsGcd d e 1
     coprime = (one-dvd d, one-dvd e, λ n p q. small n (s.coprime n (λ k z l. divides n p q (get_or G k z) (Contains-get_or G k z l))) (λ h. nonzero n p h))
       where
         divides : (n : ℕ) → n ∣ d → n ∣ e → (g : ℕ) → Contains G g → n ∣ g
-        divides n p q g h = ?
+        divides n p q g h = elim (contained-or_not A g) [
+          | inl left ↦ dvd_trans n p (All-contains (λ x. d ∣ x) A g gd.divides left)
+          | inr not ↦ dvd_trans n q (All-contains (λ x. e ∣ x) B g ge.divides ((others g).1 (h, not)))
+        ]
 
         nonzero : (n : ℕ) → n ∣ d → n ≡ 0 → ⊥
-        nonzero n p h = ?
+        nonzero n p h =
+            let zero_divides : 0 ∣ d = subst (λ k. k ∣ d) h p in
+            omega (arith, positive, eq-zero_of_zero-dvd zero_divides)
 
         small : (n : ℕ) → n ≤ 1 → (n ≡ 0 → ⊥) → n ∣ 1
         small zero l not = absurd (not refl)
@@ -114,9 +123,8 @@ module _ (G : List ℕ) (s : IsNumericalSemigroup G) (A B : List ℕ) (c : IsCho
 
     multiple : IsLcm d e (d * e)
     multiple =
-        let some_d : 0 < d = ? in
         let one : d / 1 ≡ d = omega arith in
-        subst (λ n. IsLcm d e (n * e)) one (IsLcm-by_gcd d e 1 some_d coprime)
+        subst (λ n. IsLcm d e (n * e)) one (IsLcm-by_gcd d e 1 positive coprime)
 
     abbrev split : Split
     split = record { left = A; right = B; d_left = d; d_right = e }
@@ -176,3 +184,8 @@ module _ (G : List ℕ) (s : IsNumericalSemigroup G) (A B : List ℕ) (c : IsCho
         (λ r. absurd (not (met (subst (IsGluing G) (same t r.0 r.1) r.1)))),
       );
     }
+
+-- a list that is not empty has an entry
+pub not-empty : (l : List ℕ) → (l ≡ [] → ⊥) → 0 < length l
+not-empty [] not = absurd (not refl)
+not-empty (x ∷ l) not = omega arith

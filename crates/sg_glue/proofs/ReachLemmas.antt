@@ -1,7 +1,7 @@
 -- Members of a list whose entries have a common divisor.
 use Rattle.std.proofs.Common.{◌≡◌, ℕ, zero, suc, ◌+◌, ◌*◌, ◌<◌, ◌≤◌, ◌↔◌, List, [], ◌∷◌, length, get_or, refl, sym, ap, subst, ◌∙◌, arith}
 use Rattle.std.specs.Prelude.{All}
-use Rattle.std.proofs.Math.Nat.{mul_comm, mul_assoc, mul_add}
+use Rattle.std.proofs.Math.Nat.{mul_comm, mul_assoc, eq_of_mul-eq-mul_left}
 use Rattle.std.proofs.lemmas.List.Elements.{All-nil, All-cons, All-head, All-tail}
 use Rattle.sg_defs.specs.Membership.{IsMember}
 use Rattle.sg_defs.specs.Vectors.{scale, value_of}
@@ -13,10 +13,7 @@ value-scaled d [] zs = omega arith
 value-scaled d (x ∷ xs) [] = omega arith
 value-scaled d (x ∷ xs) (z ∷ zs) =
     let e : z * (d * x) ≡ d * (z * x) = sym (mul_assoc z d x) ∙ ap (λ n. n * x) (mul_comm z d) ∙ mul_assoc d z x in
-    omega (arith, e, value-scaled d xs zs, mul_add d (z * x) (value_of xs zs))
-
-times-cancel : (d a b : ℕ) → 0 < d → d * a ≡ d * b → a ≡ b
-times-cancel d a b some e = ?
+    omega (arith, e, value-scaled d xs zs)
 
 pub reached-scaled : (d : ℕ) (small part : List ℕ) (n : ℕ) → 0 < d → scale d small ≡ part → IsMember small n ↔ IsMember part (n * d)
 reached-scaled d small part n some e = subst (λ p. IsMember small n ↔ IsMember p (n * d)) e (
@@ -26,7 +23,7 @@ reached-scaled d small part n some e = subst (λ p. IsMember small n ↔ IsMembe
   })),
   (λ m. (m.0, record {
     places = m.1.places ∙ length-scale d small;
-    value = times-cancel d (value_of small m.0) n some (sym (value-scaled d small m.0) ∙ m.1.value ∙ mul_comm n d);
+    value = eq_of_mul-eq-mul_left d some (value_of small m.0) n (sym (value-scaled d small m.0) ∙ m.1.value ∙ mul_comm n d);
   })),
 )
 

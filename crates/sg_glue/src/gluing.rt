@@ -7,10 +7,9 @@ ghost use Rattle.sg_defs.specs.Membership.{IsMember, IsNumericalSemigroup};
 ghost use Rattle.sg_glue.specs.Gluings.{AddsGluing, AreGluings, IsChosen, IsMet, IsSide};
 ghost use Rattle.sg_glue.specs.Limits.{IsGluable};
 
-use crate::parts::{common_divisor, divided, others, with_first};
+use crate::parts::{common_divisor, divided, others, parts_of, with_first};
 use crate::split::{Split, Splits};
 use crate::sums::is_sum;
-use itertools::Itertools;
 use sg_apery::Table;
 use sg_nat::Nats;
 use std::alloc::{AllocError, Global};
@@ -89,7 +88,7 @@ pub fn gluings(alloc: Global, t: &Table) -> Result<Splits, AllocError>
 {
     let generators = t.generators().as_slice();
     let mut list = Splits::new(alloc);
-    for choice in generators[1..].iter().copied().powerset(alloc)? {
+    for choice in parts_of(alloc, &generators[1..])? {
         let chosen = choice?;
         let left = with_first(alloc, generators[0], &chosen)?;
         add_gluing(alloc, generators, left, &mut list)?;

@@ -1,11 +1,13 @@
 //! Parts of a list of generators.
 
-ghost use Rattle.std.specs.Prelude.{◌≡◌, ◌<◌, ◌≤◌, ◌∷◌, ◌↔◌, ℕ, All, Contains, IfOk, IsTrue};
+ghost use Rattle.std.specs.Prelude.{◌≡◌, ◌<◌, ◌≤◌, ◌∷◌, ◌↔◌, ℕ, All, Contains, IfOk, IsTrue, length};
 ghost use Rattle.std.specs.Int.{◌∣◌};
 ghost use Rattle.std.specs.List.Sorted.{IsStrictlyIncreasing};
+ghost use Rattle.itertools.specs.Pool.{powerset_can, powerset_left, subsets};
 ghost use Rattle.sg_defs.specs.Vectors.{scale};
 ghost use Rattle.sg_glue.specs.Gluings.{IsGcdOf};
 
+use itertools::{Itertools, Powerset};
 use sg_nat::{Nats, gcd};
 use std::alloc::{AllocError, Global};
 
@@ -41,6 +43,15 @@ pub fn with_first(alloc: Global, first: u64, entries: &[u64]) -> Result<Nats, Al
     list.push(first)?;
     list.extend_from_slice(entries)?;
     Ok(list)
+}
+
+/// The parts of a list, the shortest first.
+pub fn parts_of(alloc: Global, entries: &[u64]) -> Result<Powerset<u64, Global>, AllocError>
+    ensures can { IfOk result powerset_can }
+    ensures pool { IfOk result (λ parts. parts.combinations.pool.items ≡ entries.now) }
+    ensures places { IfOk result (λ parts. powerset_left parts ≡ subsets (length entries.now)) }
+{
+    entries.iter().copied().powerset(alloc)
 }
 
 /// Whether a list has a number.
