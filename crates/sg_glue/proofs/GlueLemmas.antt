@@ -17,7 +17,7 @@ use Rattle.sg_glue.specs.Gluings.{Split, IsGcdOf, AreParts, IsGluing, IsChosen, 
 use Rattle.sg_glue.proofs.PairLemmas.{contains-head, contains-tail}
 
 -- a list has a number or not
-contained-or_not : (xs : List ℕ) (x : ℕ) → Contains xs x ⊎ (Contains xs x → ⊥)
+pub contained-or_not : (xs : List ℕ) (x : ℕ) → Contains xs x ⊎ (Contains xs x → ⊥)
 contained-or_not [] x = inr (λ h. omega (arith, h.1))
 contained-or_not (y ∷ xs) x = elim (cases_eq y x) [
   | inl same ↦ inl (0, omega arith, same)

@@ -5,3 +5,4 @@ pub mod SubsetLemmas
 pub mod ListingLemmas
 pub mod ReachLemmas
 pub mod GlueLemmas
+pub mod GluingsExist

@@ -39,8 +39,13 @@ rest-ascends x xs up k l =
     let e : suc k + 1 ≡ suc (k + 1) = omega arith in
     subst (λ i. get_or xs k 0 < get_or (x ∷ xs) i 0) e (up (suc k) (omega (arith, l)))
 
-above-first : (x : ℕ) (xs : List ℕ) → IsStrictlyIncreasing (x ∷ xs) → (k : ℕ) → k < length xs → x < get_or xs k 0
+pub above-first : (x : ℕ) (xs : List ℕ) → IsStrictlyIncreasing (x ∷ xs) → (k : ℕ) → k < length xs → x < get_or xs k 0
 above-first x xs up k l = ascends (x ∷ xs) up 0 (suc k) (omega arith) (omega (arith, l))
+
+-- a number before an ascending list of greater ones
+pub ascending-before : (x : ℕ) (xs : List ℕ) → IsStrictlyIncreasing xs → ((y : ℕ) → Contains xs y → x < y) → IsStrictlyIncreasing (x ∷ xs)
+ascending-before x [] up h = ascending-one x
+ascending-before x (y ∷ ys) up h = ascending-cons x y ys (h y (contains-head y ys)) up
 
 pick-ascends : (P : List ℕ) → IsStrictlyIncreasing P → (a : ℕ) (ds : List ℕ) (x : ℕ) → Rises (length P) a ds
     → ((k : ℕ) → a ≤ k → k < length P → x < get_or P k 0) → IsStrictlyIncreasing (x ∷ pick P ds)

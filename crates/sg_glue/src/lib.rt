@@ -9,6 +9,7 @@
 
 mod complete;
 mod gluing;
+pub mod laws;
 mod limits;
 mod parts;
 mod split;
