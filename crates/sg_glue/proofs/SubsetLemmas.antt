@@ -31,7 +31,7 @@ ways-choices n k (suc m) p e =
     ∙ ap (λ h. flat_map (λ d. map (λ ds. d ∷ ds) (choices n m (d + 1))) (numbers (ascending_low p) (h - ascending_low p))) far
 
 pub subsets-choices : (n : ℕ) → subsets n ≡ flat_map (λ k. choices n k 0) (numbers 0 (n + 1))
-subsets-choices n = flat-same (λ k. ⊤) (λ k. ways ascending_low (ascending_high n k) k []) (λ k. choices n k 0) (λ k t. ways-choices n k k [] refl) (numbers 0 (n + 1)) (λ k d l. tt)
+subsets-choices n = flat-same (λ k. ⊤) (λ k. ways ascending_low (ascending_high n k) k []) (λ k. choices n k 0) (λ k t. ways-choices n k k [] (omega arith)) (numbers 0 (n + 1)) (λ k d l. tt)
 
 contains-numbers : (a c x : ℕ) → Contains (numbers a c) x → (a ≤ x) × (x < a + c)
 contains-numbers a zero x h = absurd (omega (arith, h.1))

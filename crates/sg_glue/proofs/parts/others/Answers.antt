@@ -1,4 +1,4 @@
-use Rattle.std.proofs.Common.{◌≡◌, ◌<◌, ◌∷◌, ◌++◌, [], ◌+◌, length, take, get_or, sym, subst, ◌∙◌, arith}
+use Rattle.std.proofs.Common.{ℕ, ◌≡◌, ◌<◌, ◌∷◌, ◌++◌, [], ◌+◌, length, take, get_or, sym, subst, ◌∙◌, arith}
 use Rattle.std.specs.Prelude.{Contains}
 use Rattle.std.specs.List.Sorted.{IsStrictlyIncreasing}
 use Rattle.std.proofs.lemmas.Bool.{false≢true}
@@ -8,7 +8,7 @@ use Rattle.sg_glue.proofs.parts.others.Goals.{then-not-is_among+in_ok-push, else
 
 pub loop-entry-preserved : goal.loop-entry-preserved
 loop-entry-preserved c =
-    let P = λ g. Contains c.args.taken.now g → ⊥ in
+    let P : ℕ → Type 0 = λ g. Contains c.args.taken.now g → ⊥ in
     let xs = c.args.entries.now in
     let i = c.loop-entry.entry-index in
     let l = c.loop-entry.rest in
