@@ -6,3 +6,4 @@ pub mod ListingLemmas
 pub mod ReachLemmas
 pub mod GlueLemmas
 pub mod GluingsExist
+pub mod TurnLemmas

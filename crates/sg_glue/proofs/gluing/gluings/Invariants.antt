@@ -1,5 +1,5 @@
 use Rattle.std.proofs.Common.{◌≡◌, List, ℕ, ◌++◌, map, length, drop, get_or}
-use Rattle.itertools.specs.Pool.{powerset_can, powerset_left, subsets}
+use Rattle.itertools.specs.Pool.{powerset_left, subsets}
 use Rattle.sg_glue.proofs.ListingLemmas.{AreUpTo, left_of}
 use Rattle.sg_glue.proofs.gluing.gluings.Given as goal
 
@@ -9,7 +9,7 @@ invariant-loop-choice l = record {
   can : (goal.iterator-loop-choice).can_next l.choice-iterator;
   finite : (goal.iterator-loop-choice).is_finite l.choice-iterator;
   pool : l.choice-iterator.combinations.pool.items ≡ drop 1 l.t;
-  done : List (List ℕ);
-  parts : map (left_of (get_or l.t 0 0) (drop 1 l.t)) (subsets (length (drop 1 l.t))) ≡ done ++ map (left_of (get_or l.t 0 0) (drop 1 l.t)) (powerset_left l.choice-iterator);
-  found : AreUpTo l.t done l.list;
+  came : List (List ℕ);
+  parts : subsets (length (drop 1 l.t)) ≡ came ++ powerset_left l.choice-iterator;
+  found : AreUpTo l.t (map (left_of (get_or l.t 0 0) (drop 1 l.t)) came) l.list;
 }
