@@ -17,13 +17,13 @@ loop-entry-preserved c =
     elim c.if-not-is_among.branch [
       | then-not-is_among+in_ok-push w ↦
           let made : c.if-not-is_among.rest ≡ l ++ get_or xs i 0 ∷ [] = rw w.rest-is w.in_ok-push.ensures.ok in
-          let not : P (get_or xs i 0) = λ h. false≢true (sym w.if-not-is_among.false ∙ c.is_among.ensures.1 h) in
+          let not : P (get_or xs i 0) = λ h. false≢true (sym w.if-not-is_among.true ∙ c.is_among.ensures.1 h) in
           record {
             ascending = subst IsStrictlyIncreasing (sym made) (kept-ascending P xs i l c.requires inside inv.kept inv.ascending);
             kept = subst (IsKept P (take (i + 1) xs)) (sym made) (kept-push P xs i l inside not inv.kept);
           }
       | else-not-is_among w ↦
-          let there : P (get_or xs i 0) → ⊥ = λ not. not (c.is_among.ensures.0 w.if-not-is_among.true) in
+          let there : P (get_or xs i 0) → ⊥ = λ not. not (c.is_among.ensures.0 w.if-not-is_among.false) in
           record {
             ascending = rw w.rest-is inv.ascending;
             kept = rw w.rest-is (kept-skip P xs i l inside there inv.kept);
