@@ -1,20 +1,20 @@
--- The settling of a list of classes tells whether it meets Kunz's conditions.
-use Rattle.std.proofs.Common.{◌≡◌, ℕ, ◌+◌, ◌%◌, ◌^◌, ◌<◌, ◌≤◌, List, length, get_or, sym, ap, subst, ◌∙◌, inl, inr, arith}
-use Rattle.std.specs.Prelude.{Contains}
-use Rattle.std.proofs.lemmas.Bool.{cases_eq}
-use Rattle.std.proofs.lemmas.Grind.{same_number_lists}
-use Rattle.std.proofs.lemmas.List.{length-set, get_or-set_same, get_or-set_other}
+-- Kunz's conditions by the generators under which a list of classes is closed.
+use Rattle.std.proofs.Common.{◌≡◌, ℕ, zero, suc, ◌+◌, ◌-◌, ◌*◌, ◌%◌, ◌<◌, ◌≤◌, ◌↔◌, List, length, get_or, sym, ap, subst, ◌∙◌, inl, inr, arith}
+use Rattle.std.specs.Prelude.{Contains, IsTrue, nat_le}
+use Rattle.std.proofs.lemmas.Bool.{cases_eq, leb-true, le-leb}
+use Rattle.std.proofs.lemmas.Nat.{mod_below}
+use Rattle.std.proofs.lemmas.List.{length-set, get_or-set_other}
+use Rattle.std.proofs.Math.Nat.{mod-add-mod, mod-eq_of_lt}
 use Rattle.sg_defs.specs.Membership.{IsMember, Generates}
-use Rattle.sg_defs.proofs.MembershipLemmas.{member-add}
+use Rattle.sg_defs.proofs.MembershipLemmas.{member-zero, member-add, member-times}
 use Rattle.sg_classes.specs.Classes.{IsAboveEntry, IsClassList, IsKunz}
 use Rattle.sg_classes.specs.Table.{IsAperyTable}
-use Rattle.sg_classes.proofs.ResidueLemmas.{residue-sum}
+use Rattle.sg_classes.proofs.ResidueLemmas.{same_residue-add, residue-sum}
+use Rattle.sg_classes.proofs.AperyLemmas.{congruent-split, closed-bound}
 use Rattle.sg_classes.proofs.GeneratorLemmas.{contains-place, place-contains, member-listed}
-use Rattle.sg_classes.proofs.KunzLemmas.{above-entry, above-member, above-modulus, class-semigroup, class_generators, entry-made, gen-positive, kunz-table, member-made, modulus-listed}
-use Rattle.sg_tables.specs.Closed.{AreClassGenerators}
-use Rattle.sg_tables.specs.Found.{AreFound, AreSettled}
-use Rattle.sg_tables.proofs.ClosingLemmas.{small-below}
-use Rattle.sg_tables.proofs.FoundLemmas.{found-known}
+use Rattle.sg_classes.proofs.KunzLemmas.{above-add, above-entry, above-member, class-semigroup, class_generators, gen-positive, kunz-table, member-made, modulus-listed}
+use Rattle.sg_tables.specs.Closed.{IsClosedUnder, AreClassGenerators}
+use Rattle.sg_tables.specs.Minimal.{IsPartOf}
 
 -- the generators' Apery list
 pub class-table : (t D : List ℕ) → IsKunz t → AreClassGenerators t D → IsAperyTable D t
@@ -29,68 +29,86 @@ class-generates t D M k g h = record {
   same = λ n. ((λ p. (h.same n).0 (member-made t D k.classes g.keeps n p)), (λ q. above-member t k D g.adds_none n ((h.same n).1 q)));
 }
 
--- each of the generators is above the entry of its class
-generator-above : (t : List ℕ) → IsClassList t → (i : ℕ) → i < length (class_generators t) → IsAboveEntry t (get_or (class_generators t) i 0)
-generator-above t c i l = elim (cases_eq i 0) [
-  | inl e ↦ subst (IsAboveEntry t) (sym (get_or-set_same t 0 (length t) 0 c.not_empty) ∙ ap (λ j. get_or (class_generators t) j 0) (sym e)) (above-modulus t c)
-  | inr other ↦ subst (IsAboveEntry t) (sym (get_or-set_other t 0 i (length t) 0 other)) (above-entry t c i (omega (arith, l, length-set t 0 (length t))))
-]
+-- the residue of an entry and g
+entry-residue : (t : List ℕ) → IsClassList t → (i g : ℕ) → i < length t → (get_or t i 0 + g) % length t ≡ (i + g) % length t
+entry-residue t c i g l = same_residue-add (get_or t i 0) i g (length t) (c.residue i l ∙ sym (mod-eq_of_lt l))
 
--- each entry but the first is one of them
-entry-kept : (t D : List ℕ) → AreClassGenerators t D → (i : ℕ) → 0 < i → i < length t → Contains D (get_or t i 0)
-entry-kept t D g i after l = g.keeps (get_or t i 0)
-    (subst (Contains (class_generators t)) (get_or-set_other t 0 i (length t) 0 (λ e. omega (arith, e, after)))
-    (place-contains (class_generators t) i (omega (arith, l, length-set t 0 (length t)))))
+-- what meets Kunz's conditions is closed under each of its numbers
+pub closed-kunz : (t : List ℕ) → IsKunz t → (g : ℕ) → IsAboveEntry t g → IsClosedUnder t g
+closed-kunz t k g h i l =
+    subst (λ x. get_or t x 0 ≤ get_or t i 0 + g) (entry-residue t k.classes i g l) (above-add t k (get_or t i 0) g (above-entry t k.classes i l) h)
 
--- the entries of a class list are found, and no sums yet
-pub found-classes : (t D s : List ℕ) → IsClassList t → AreClassGenerators t D → length s ≡ length t → ((k : ℕ) → k < length s → get_or s k 0 ≡ 0) → AreFound D t s
-found-classes t D s c g marks zeros = record {
-  long = marks;
-  not_empty = c.not_empty;
-  modulus = member-listed D (length t) (g.keeps (length t) (modulus-listed t c.not_empty));
-  zero = c.zero;
-  entry = λ i p l. inr (inl (record { residue = c.residue i l; unmarked = zeros i (omega (arith, l, marks)); listed = entry-kept t D g i p l }));
-  listed = λ j l.
-      let q = contains-place (class_generators t) (get_or D j 0) (g.adds_none (get_or D j 0) (place-contains D j l)) in
-      subst (IsAboveEntry t) q.2 (generator-above t c q.0 q.1);
-}
+-- a part of the generators that leaves out those that are spare
+module _ (t D M : List ℕ) (c : IsClassList t) (g : AreClassGenerators t D) (p : IsPartOf t D M (length D)) where
+  part-positive : (x : ℕ) → Contains M x → 0 < x
+  part-positive x h =
+      let q = contains-place M x h in
+      omega (arith, gen-positive t c x (g.adds_none x (subst (Contains D) q.2 (p.kept q.0 q.1).0)))
 
--- a class list of which no entry is lowered any more meets Kunz's conditions
-pub kunz-settled : (t D s : List ℕ) → IsClassList t → AreClassGenerators t D → AreFound D t s → AreSettled D t s → IsKunz t
-kunz-settled t D s c g f h = record { classes = c; sums = sums }
-  where
-    made : (i : ℕ) → i < length t → IsMember D (get_or t i 0)
-    made i l = entry-made t D c g.keeps i l
+  -- where it makes each generator up to b, it makes each entry up to b
+  made-entry : (b : ℕ) → ((w : ℕ) → w ≤ b → Contains D w → IsMember M w) → (i : ℕ) → i < length t → get_or t i 0 ≤ b → IsMember M (get_or t i 0)
+  made-entry b before i inside low = elim (cases_eq i 0) [
+    | inl e ↦ subst (IsMember M) (sym (ap (λ j. get_or t j 0) e ∙ c.zero)) (member-zero M)
+    | inr other ↦ before (get_or t i 0) low (g.keeps (get_or t i 0)
+        (subst (Contains (class_generators t)) (get_or-set_other t 0 i (length t) 0 other) (place-contains (class_generators t) i (omega (arith, length-set t 0 (length t))))))
+  ]
 
-    sums : (i j : ℕ) → i < length t → j < length t → get_or t ((i + j) % length t) 0 ≤ get_or t i 0 + get_or t j 0
-    sums i j l m =
-        let v = get_or t i 0 in
-        let w = get_or t j 0 in
-        let low : get_or t ((v + w) % length t) 0 ≤ v + w = small-below D t s (class-semigroup t D c g.keeps g.adds_none) f h (v + w + 1) (λ k n p. (made k n, c.residue k n)) (v + w) (v + w)
-        (omega arith) (omega arith) (member-add D v w (made i l) (made j m)) in
-        let r : (v + w) % length t ≡ (i + j) % length t = sym (residue-sum v w (length t)) ∙ ap (λ x. (x + w % length t) % length t) (c.residue i l) ∙ ap (λ x. (i + x) % length t) (c.residue j m) in
-        subst (λ x. get_or t x 0 ≤ v + w) r low
+  -- and each number up to b that is one it makes and a multiple of the modulus
+  made-above : (b : ℕ) → ((w : ℕ) → w ≤ b → Contains D w → IsMember M w) → (x v k : ℕ) → x ≡ v + k * length t → x ≤ b → IsMember M v → IsMember M x
+  made-above b before x v zero e low q = subst (IsMember M) (let f : v ≡ x = omega arith in f) q
+  made-above b before x v (suc k) e low q =
+      subst (IsMember M) (sym e) (member-add M v (suc k * length t) q
+      (member-times M (suc k) (length t) (before (length t) (omega arith) (g.keeps (length t) (modulus-listed t c.not_empty)))))
 
--- and of one that meets them none is lowered
-pub kunz-kept : (t D u s : List ℕ) → IsKunz t → AreClassGenerators t D → AreFound D u s → length u ≡ length t → ((i : ℕ) → i < length t → get_or t i 0 < 2 ^ 64) → u ≡ t
-kunz-kept t D u s k g f long fits = same_number_lists u t long (λ i l. same i (omega (arith, l, long)))
-  where
-    same : (i : ℕ) → i < length t → get_or u i 0 ≡ get_or t i 0
-    same i l = elim (cases_eq i 0) [
-      | inl e ↦ ap (λ j. get_or u j 0) e ∙ f.zero ∙ sym (ap (λ j. get_or t j 0) e ∙ k.classes.zero)
-      | inr other ↦
-          let x = get_or t i 0 in
-          let p = contains-place D x (entry-kept t D g i (omega (arith, other)) l) in
-          let down : get_or u (x % length u) 0 ≤ x = subst (IsAboveEntry u) p.2 (f.listed p.0 p.1) in
-          let here : x % length u ≡ i = ap (λ n. x % n) long ∙ k.classes.residue i l in
-          elim ((found-known D u s f).entry i (omega (arith, l, long))) [
-            | inl none ↦ omega (arith, none, fits i l, down, ap (λ j. get_or u j 0) here)
-            | inr some ↦
-                let up : get_or t (get_or u i 0 % length t) 0 ≤ get_or u i 0 = above-member t k D g.adds_none (get_or u i 0) some.0 in
-                let there : get_or u i 0 % length t ≡ i = ap (λ n. get_or u i 0 % n) (sym long) ∙ some.1 in
-                omega (arith, up, ap (λ j. get_or t j 0) there, down, ap (λ j. get_or u j 0) here)
-          ]
-    ]
+  -- it makes each generator, by induction on a bound
+  part-makes : (b w : ℕ) → w ≤ b → Contains D w → IsMember M w
+  part-makes zero w l h = absurd (omega (arith, gen-positive t c w (g.adds_none w h)))
+  part-makes (suc b) w l h =
+      let q = contains-place D w h in
+      elim (p.whole q.0 q.1) [
+        | inl listed ↦ subst (IsMember M) q.2 (member-listed M (get_or D q.0 0) listed)
+        | inr spare ↦
+            let x = get_or D q.0 0 - spare.0 in
+            let i = x % length t in
+            let inside : i < length t = mod_below x (length t) c.not_empty in
+            let less : x < w = omega (arith, part-positive spare.0 spare.1, spare.2, q.2, gen-positive t c w (g.adds_none w h)) in
+            let s = congruent-split (length t) (get_or t i 0) x c.not_empty (c.residue i inside) spare.3 in
+            let entry : IsMember M (get_or t i 0) = made-entry b (λ w l h. part-makes b w l h) i inside (omega (arith, spare.3)) in
+            let rest : IsMember M x = made-above b (λ w l h. part-makes b w l h) x (get_or t i 0) s.0 s.1 (omega arith) entry in
+            let e : spare.0 + x ≡ w = omega (arith, q.2, spare.2) in
+            subst (IsMember M) e (member-add M spare.0 x (member-listed M spare.0 spare.1) rest)
+      ]
+
+  -- so the list meets Kunz's conditions where it is closed under that part
+  pub kunz-closed : ((k : ℕ) → k < length M → IsClosedUnder t (get_or M k 0)) → IsKunz t
+  kunz-closed closed = record { classes = c; sums = sums }
+    where
+      entry : (i : ℕ) → i < length t → IsMember M (get_or t i 0)
+      entry i l = made-entry (get_or t i 0) (part-makes (get_or t i 0)) i l (omega arith)
+
+      sums : (i j : ℕ) → i < length t → j < length t → get_or t ((i + j) % length t) 0 ≤ get_or t i 0 + get_or t j 0
+      sums i j l m =
+          let v = get_or t i 0 in
+          let w = get_or t j 0 in
+          let low : get_or t ((v + w) % length t) 0 ≤ v + w = closed-bound M (length t) t c.not_empty c.zero c.residue
+          (λ i k l m. subst (λ x. get_or t x 0 ≤ get_or t i 0 + get_or M k 0) (sym (entry-residue t c i (get_or M k 0) l)) (closed k m i l))
+          (v + w) (member-add M v w (entry i l) (entry j m)) in
+          let r : (v + w) % length t ≡ (i + j) % length t = sym (residue-sum v w (length t)) ∙ ap (λ x. (x + w % length t) % length t) (c.residue i l) ∙ ap (λ x. (i + x) % length t) (c.residue j m) in
+          subst (λ x. get_or t x 0 ≤ v + w) r low
+
+  -- and it is closed under that part where it meets them
+  pub closed-part : IsKunz t → (k : ℕ) → k < length M → IsClosedUnder t (get_or M k 0)
+  closed-part kunz k l = closed-kunz t kunz (get_or M k 0) (above-member t kunz D g.adds_none (get_or M k 0) (member-listed D (get_or M k 0) (p.kept k l).0))
+
+-- the test of one sum, without the sum
+pub leads-up : (t : List ℕ) (g i s : ℕ) → s ≡ get_or t ((i + g % length t) % length t) 0 - g →
+    IsTrue (nat_le s (get_or t i 0)) ↔ (get_or t ((i + g) % length t) 0 ≤ get_or t i 0 + g)
+leads-up t g i s e =
+    let a : i + g % length t ≡ g % length t + i = omega arith in
+    let b : g + i ≡ i + g = omega arith in
+    let r : (i + g % length t) % length t ≡ (i + g) % length t = ap (λ x. x % length t) a ∙ mod-add-mod g (length t) i ∙ ap (λ x. x % length t) b in
+    let f = ap (λ x. get_or t x 0) r in
+    ((λ h. omega (arith, e, f, leb-true s (get_or t i 0) h)), (λ h. le-leb s (get_or t i 0) (omega (arith, e, f, h))))
 
 -- the generators of a class list are above 0
 pub class-positive : (t D : List ℕ) → IsClassList t → AreClassGenerators t D → (i : ℕ) → i < length D → 0 < get_or D i 0
