@@ -1,0 +1,4 @@
+pub mod Gluings
+pub mod Limits
+pub mod Sums
+pub mod Complete
