@@ -1,5 +1,8 @@
 //! One run, and how many were tried.
 
+ghost use Rattle.std.specs.Prelude.{◌≡◌, false};
+ghost use Rattle.sg_io.specs.MemSource.{is_begun};
+
 use sg_io::{MemSink, MemSource, Sink};
 use sgps_cli::run;
 use std::alloc::{AllocError, Global};
@@ -22,12 +25,14 @@ impl Ended {
     }
 }
 
-/// How the run over this source ends that writes to this sink.
+/// How the run over this source, which is not begun, ends that writes to this sink.
 pub fn end_of<W: Sink>(
     alloc: Global,
     source: &mut MemSource,
     out: &mut W,
-) -> Result<Ended, AllocError> {
+) -> Result<Ended, AllocError>
+    requires { is_begun source.old ≡ false }
+{
     let mut err = MemSink::new(alloc, &[])?;
     let ending = run(alloc, &[], source, out, &mut err);
     Ended::new(alloc, ending.status, err.bytes())
