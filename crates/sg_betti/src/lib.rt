@@ -16,8 +16,6 @@ pub mod laws;
 mod limits;
 mod relation;
 mod search;
-#[cfg(test)]
-mod tests;
 
 pub use canonical::presentation;
 pub use elements::betti_elements;

@@ -7,7 +7,7 @@ use Rattle.sg_store.specs.Attributes.{Attributes}
 use Rattle.sg_rows.specs.Alternatives.{or_else}
 use Rattle.sg_rows.specs.Asks.{Attribute, Asking, asked_of, nothing}
 use Rattle.sg_rows.specs.Kinds.{fitted, given}
-use Rattle.sg_rows.specs.Order.{Reply, Row, Case, unfit, fits, IsReply, Passes, Refuses, AreAsked}
+use Rattle.sg_rows.specs.Order.{Reply, Row, Case, unfit, fits, IsReply, Admits, Bars, AreAsked}
 use Rattle.sg_rows.specs.Replies.{Replies}
 use Rattle.sg_rows.specs.declared.fault.CallFault.{CallFault}
 use Rattle.sg_rows.specs.declared.fault.CallFault.TheVariants.{Script, Memory}
@@ -117,13 +117,13 @@ module _ {A : Type 0} (o : Option A) (asks : A → List Asking) (row : A → Row
   asks_unfit is h = subst (λ p. Asks r (fitted p asks row) old new) (sym is) (at_end r _ ([], refl, h))
 
   module _ (a : A) (is : o ≡ Some a) where
-    -- the row refused, and no more than what it asks for at once was asked for
-    pub asks_refused : Refuses (row a) → new ≡ after_asked (asks a) old → Asks r (fitted o asks row) old new
-    asks_refused refuses h = subst (λ p. Asks r (fitted p asks row) old new) (sym is) (at_end r _ (asks a, inr (refuses, refl), h))
+    -- the row barred what was found, and no more than what it asks for at once was asked for
+    pub asks_refused : Bars (row a) → new ≡ after_asked (asks a) old → Asks r (fitted o asks row) old new
+    asks_refused bars h = subst (λ p. Asks r (fitted p asks row) old new) (sym is) (at_end r _ (asks a, inr (bars, refl), h))
 
     -- it did not, and all was asked for
-    pub asks_passed : Passes (row a) → new ≡ after_asked (asks a ++ (row a).late) old → Asks r (fitted o asks row) old new
-    asks_passed passes h = subst (λ p. Asks r (fitted p asks row) old new) (sym is) (at_end r _ (asks a ++ (row a).late, inl (passes, refl), h))
+    pub asks_passed : Admits (row a) → new ≡ after_asked (asks a ++ (row a).late) old → Asks r (fitted o asks row) old new
+    asks_passed admits h = subst (λ p. Asks r (fitted p asks row) old new) (sym is) (at_end r _ (asks a ++ (row a).late, inl (admits, refl), h))
 
   -- the same of the kinds that are looked for first, and of the others
   pub asks_first : (a : A) (rest : Case) → o ≡ Some a → Asks r (fitted o asks row) old new → Asks r (or_else (fitted o asks row) rest) old new

@@ -31,6 +31,7 @@ use Rattle.sg_rows_ideals.specs.declared.pairs.Pair.TheVariants as pair
 use Rattle.sg_rows_ideals.proofs.OneIdeal.{ideal_one, pair_one, generated_one, multiple_one, translate_one, member_one}
 use Rattle.sg_rows_factorizations.proofs.OneCommand.{command_one}
 use Rattle.sg_rows_presentations.proofs.OneCommand as presentations
+use Rattle.sg_rows_tame.proofs.OneCommand as tames
 use Rattle.sg_rows.proofs.AskLemmas.{one_asked}
 use Rattle.sg_calls.specs.Laws.{Combines}
 use Rattle.sg_calls.specs.Remainders.{IsRemainder}
@@ -46,7 +47,7 @@ use Rattle.sg_rows_presentations.specs.Commands as presentation_commands
 use Rattle.sg_rows_presentations.specs.declared.command.PresentationCommand.TheVariants.{OfPresentation}
 use Rattle.sg_rows_presentations.specs.declared.fact.PresentationFact.TheVariants as presentation
 use Rattle.sg_calls.specs.declared.command.Command.{Command}
-use Rattle.sg_calls.specs.declared.command.Command.TheVariants.{Lists, Makers, Facts, Shapes, Ideals, Factorizations, Presentations, Shared}
+use Rattle.sg_calls.specs.declared.command.Command.TheVariants.{Lists, Makers, Facts, Shapes, Ideals, Factorizations, Presentations, Tames, Shared}
 use Rattle.sg_calls.specs.declared.command.Shared.TheVariants.{CatenaryDegree, Intersection, MinimalGenerators}
 use Rattle.sg_calls.specs.declared.operator.Operator.{Operator}
 use Rattle.sg_calls.specs.declared.operator.Operator.TheVariants.{Plus, Less, Times, Mod, Eq, Ne, Lt, Le, Gt, Ge, Member}
@@ -111,6 +112,7 @@ row_one n (Shapes c) args = shape_one c args
 row_one n (Ideals c) args = ideal_one c args
 row_one n (Factorizations c) args = command_one c args
 row_one n (Presentations c) args = presentations.command_one c args
+row_one n (Tames c) args = tames.command_one c args
 row_one n (Shared CatenaryDegree) args =
     let of_semigroup = OfPresentation presentation.CatenaryDegree in
     let of_element = OfElement element.CatenaryDegree in

@@ -37,6 +37,7 @@ use Rattle.sg_rows_ideals.specs.declared.pairs.Pair.TheVariants.{Difference, Sum
 use Rattle.sg_rows_ideals.specs.declared.pairs.Pair.TheVariants as pair
 use Rattle.sg_rows_factorizations.proofs.SomeCommand.{command_some}
 use Rattle.sg_rows_presentations.proofs.SomeCommand as presentations
+use Rattle.sg_rows_tame.proofs.SomeCommand as tames
 use Rattle.sg_rows_ideals.proofs.SomeIdeal.{ideal_some, pair_some, generated_some, multiple_some, translate_some, member_some}
 use Rattle.sg_rows.proofs.AskLemmas.{some_asked}
 use Rattle.sg_calls.specs.Laws.{Combines}
@@ -53,7 +54,7 @@ use Rattle.sg_rows_presentations.specs.Commands as presentation_commands
 use Rattle.sg_rows_presentations.specs.declared.command.PresentationCommand.TheVariants.{OfPresentation}
 use Rattle.sg_rows_presentations.specs.declared.fact.PresentationFact.TheVariants as presentation
 use Rattle.sg_calls.specs.declared.command.Command.{Command}
-use Rattle.sg_calls.specs.declared.command.Command.TheVariants.{Lists, Makers, Facts, Shapes, Ideals, Factorizations, Presentations, Shared}
+use Rattle.sg_calls.specs.declared.command.Command.TheVariants.{Lists, Makers, Facts, Shapes, Ideals, Factorizations, Presentations, Tames, Shared}
 use Rattle.sg_calls.specs.declared.command.Shared.TheVariants.{CatenaryDegree, Intersection, MinimalGenerators}
 use Rattle.sg_calls.specs.declared.operator.Operator.{Operator}
 use Rattle.sg_calls.specs.declared.operator.Operator.TheVariants.{Plus, Less, Times, Mod, Eq, Ne, Lt, Le, Gt, Ge, Member}
@@ -122,6 +123,7 @@ row_some n (Shapes c) args l = shape_some c args l
 row_some n (Ideals c) args l = ideal_some c args l
 row_some n (Factorizations c) args l = command_some c args l
 row_some n (Presentations c) args l = presentations.command_some c args l
+row_some n (Tames c) args l = tames.command_some c args l
 row_some n (Shared CatenaryDegree) args l =
     let of_semigroup = OfPresentation presentation.CatenaryDegree in
     let of_element = OfElement element.CatenaryDegree in

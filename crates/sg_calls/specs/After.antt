@@ -1,16 +1,17 @@
 -- What a store keeps once attributes were asked for.
 use Rattle.std.specs.Prelude.{◌≡◌, ℕ, List, [], ◌∷◌, Result, Ok, Err, ⊤}
-use Rattle.sg_rows.specs.Asks.{Attribute, apery_table, pseudo_frobenius, presentation, Asking}
+use Rattle.sg_rows.specs.Asks.{Attribute, apery_table, pseudo_frobenius, presentation, tame_degree, Asking}
 use Rattle.sg_rows.specs.Order.{Case, AreAsked}
 use Rattle.sg_rows.specs.declared.fault.CallFault.{CallFault}
 use Rattle.sg_rows.specs.declared.fault.CallFault.TheVariants.{Script, Memory}
-use Rattle.sg_store.specs.Attributes.{Attributes, table_answered, numbers_answered, presentation_answered}
+use Rattle.sg_store.specs.Attributes.{Attributes, table_answered, numbers_answered, presentation_answered, tame_answered}
 
 -- after this attribute of this semigroup was asked for
 abbrev pub after_one : Attribute → List ℕ → Attributes → Attributes
 after_one apery_table G a = table_answered G a
 after_one pseudo_frobenius G a = numbers_answered G a
 after_one presentation G a = presentation_answered G a
+after_one tame_degree G a = tame_answered G a
 
 -- after these were asked for in turn
 abbrev pub after_asked : List Asking → Attributes → Attributes

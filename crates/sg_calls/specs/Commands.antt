@@ -12,8 +12,9 @@ use Rattle.sg_rows_symmetry.specs.Shapes as shapes
 use Rattle.sg_rows_ideals.specs.Ideals as ideals
 use Rattle.sg_rows_factorizations.specs.Commands as factorizations
 use Rattle.sg_rows_presentations.specs.Commands as presentations
+use Rattle.sg_rows_tame.specs.Commands as tames
 use Rattle.sg_calls.specs.declared.command.Command.{Command}
-use Rattle.sg_calls.specs.declared.command.Command.TheVariants.{Lists, Makers, Facts, Shapes, Ideals, Factorizations, Presentations, Shared}
+use Rattle.sg_calls.specs.declared.command.Command.TheVariants.{Lists, Makers, Facts, Shapes, Ideals, Factorizations, Presentations, Tames, Shared}
 use Rattle.sg_calls.specs.declared.command.Shared.TheVariants.{CatenaryDegree, Intersection, MinimalGenerators}
 use Rattle.sg_calls.specs.declared.command.Folding.TheVariants.{EachValue, ThoseTrue, AllTrue, AnyTrue, CountTrue}
 use Rattle.sg_calls.specs.declared.command.Word.{Word}
@@ -42,7 +43,8 @@ family_command name =
     (option_or (option_map Shapes (shapes.named name))
     (option_or (option_map Ideals (ideals.named name))
     (option_or (option_map Factorizations (factorizations.named name))
-    (option_map Presentations (presentations.named name)))))))
+    (option_or (option_map Presentations (presentations.named name))
+    (option_map Tames (tames.named name))))))))
 
 -- what a name stands for
 unfoldable pub word_named : List ℕ → Option Word
@@ -65,6 +67,7 @@ takes (Shapes c) n = shapes.takes c n
 takes (Ideals c) n = ideals.takes c n
 takes (Factorizations c) n = factorizations.takes c n
 takes (Presentations c) n = presentations.takes c n
+takes (Tames c) n = tames.takes c n
 takes (Shared CatenaryDegree) n = nat_eq n 1 || nat_eq n 2
 takes (Shared Intersection) n = nat_eq n 2
 takes (Shared MinimalGenerators) n = nat_eq n 1

@@ -16,13 +16,14 @@ use Rattle.sg_rows_factorizations.specs.Commands as factorizations
 use Rattle.sg_rows_factorizations.specs.declared.command.FactorizationCommand.TheVariants.{OfElement}
 use Rattle.sg_rows_factorizations.specs.declared.element.ElementFact.TheVariants as element
 use Rattle.sg_rows_presentations.specs.Commands as presentations
+use Rattle.sg_rows_tame.specs.Commands as tames
 use Rattle.sg_rows_presentations.specs.declared.command.PresentationCommand.TheVariants.{OfPresentation}
 use Rattle.sg_rows_presentations.specs.declared.fact.PresentationFact.TheVariants as presentation
 use Rattle.sg_rows_ideals.specs.declared.facts.IdealFact.TheVariants.{Generators}
 use Rattle.sg_rows_ideals.specs.declared.ideals.IdealCommand.TheVariants.{OfIdeal, OfTwoIdeals}
 use Rattle.sg_rows_ideals.specs.declared.pairs.Pair.TheVariants as pair
 use Rattle.sg_calls.specs.declared.command.Command.{Command}
-use Rattle.sg_calls.specs.declared.command.Command.TheVariants.{Lists, Makers, Facts, Shapes, Ideals, Factorizations, Presentations}
+use Rattle.sg_calls.specs.declared.command.Command.TheVariants.{Lists, Makers, Facts, Shapes, Ideals, Factorizations, Presentations, Tames}
 use Rattle.sg_calls.specs.declared.command.Command.TheVariants as command
 use Rattle.sg_calls.specs.declared.command.Shared.{Shared}
 use Rattle.sg_calls.specs.declared.command.Shared.TheVariants.{CatenaryDegree, Intersection, MinimalGenerators}
@@ -42,4 +43,5 @@ row budget (Shapes c) args = shapes.case_of c args
 row budget (Ideals c) args = ideals.case_of c args
 row budget (Factorizations c) args = factorizations.case_of c args
 row budget (Presentations c) args = presentations.case_of c args
+row budget (Tames c) args = tames.case_of c args
 row budget (command.Shared s) args = shared_case s args

@@ -1,7 +1,7 @@
 //! What calls ask the store for. A call asks for nothing before all its arguments are seen to be of the kinds that its row
 //! takes. Then it asks for the tables of the semigroups in the order of the arguments, and of a semigroup for its table
-//! before its pseudo-Frobenius numbers. An ideal asks for the table of its semigroup. What is asked for once a row refuses
-//! nothing stands in `presentations`.
+//! before its pseudo-Frobenius numbers. An ideal asks for the table of its semigroup. What is asked for once a row takes its
+//! arguments stands in `presentations` and `tames`.
 
 ghost use Rattle.std.specs.Prelude.{◌≡◌, ℕ, List, Some, None, IsSome, IfOk, OnOk, MatchOption, [], ◌∷◌, slice_get};
 ghost use Rattle.sg_defs.specs.Invariants.{IsPseudoFrobenius};

@@ -16,6 +16,7 @@ use crate::command::{Command, Shared, command_named};
 use crate::delivering::deliver;
 use crate::families::{on_factorizations, on_facts, on_ideals, on_lists, on_makers, on_shapes};
 use crate::presentations::on_presentations;
+use crate::tames::on_tames;
 use sg_rows::{CallFault, Fault, OfGenerators, one_semigroup};
 use sg_rows_constructors::intersection;
 use sg_rows_factorizations::{ElementFact, FactorizationCommand};
@@ -113,7 +114,7 @@ fn on_shared(
 
 /// What the row of a command answers, within a budget of steps that no row counts yet. Known ids go on to stand for what
 /// they stood for, and each id in the value is known. What the row asks for at once is asked for in its order, also where
-/// the row refuses, and what it asks for late once it does not.
+/// the row refuses, and what it asks for late once its arguments are neither too large nor bad.
 pub fn perform(
     alloc: Global,
     store: &mut Store,
@@ -135,13 +136,15 @@ pub fn perform(
         Command::Ideals(command) => on_ideals(alloc, store, command, args),
         Command::Factorizations(command) => on_factorizations(alloc, store, command, args),
         Command::Presentations(command) => on_presentations(alloc, store, command, args),
+        Command::Tames(command) => on_tames(alloc, store, command, args),
         Command::Shared(shared) => on_shared(alloc, store, shared, args),
     }
 }
 
 /// What a command answers: its value, or the first refusal that comes once its name and the number of its arguments
 /// are right. Known ids go on to stand for what they stood for, and each id in the value is known. What the row asks for
-/// at once is asked for in its order, also where the row refuses, and what it asks for late once it does not.
+/// at once is asked for in its order, also where the row refuses, and what it asks for late once its arguments are neither
+/// too large nor bad.
 pub fn answer(
     alloc: Global,
     store: &mut Store,

@@ -11,6 +11,7 @@ use sg_rows_invariants::Fact;
 use sg_rows_lists::ListCommand;
 use sg_rows_presentations::PresentationCommand;
 use sg_rows_symmetry::Shape;
+use sg_rows_tame::TameCommand;
 
 /// A command, by the family that it is of.
 #[derive(Clone, Copy)]
@@ -29,6 +30,8 @@ pub enum Command {
     Factorizations(FactorizationCommand),
     /// On the minimal presentation of a numerical semigroup, and on all its factorizations.
     Presentations(PresentationCommand),
+    /// On the tame degree of a numerical semigroup.
+    Tames(TameCommand),
     /// On semigroups or on ideals or elements.
     Shared(Shared),
 }
@@ -114,7 +117,10 @@ fn family_command(name: &[u8]) -> Option<Command>
     if let Some(command) = sg_rows_factorizations::named(name) {
         return Some(Command::Factorizations(command));
     }
-    Some(Command::Presentations(sg_rows_presentations::named(name)?))
+    if let Some(command) = sg_rows_presentations::named(name) {
+        return Some(Command::Presentations(command));
+    }
+    Some(Command::Tames(sg_rows_tame::named(name)?))
 }
 
 /// What this name stands for.
@@ -149,6 +155,7 @@ pub fn takes(command: Command, count: usize) -> bool
         Command::Ideals(command) => sg_rows_ideals::takes(command, count),
         Command::Factorizations(command) => sg_rows_factorizations::takes(command, count),
         Command::Presentations(command) => sg_rows_presentations::takes(command, count),
+        Command::Tames(command) => sg_rows_tame::takes(command, count),
         Command::Shared(Shared::CatenaryDegree) => count == 1 || count == 2,
         Command::Shared(Shared::Intersection) => count == 2,
         Command::Shared(Shared::MinimalGenerators) => count == 1,

@@ -20,12 +20,10 @@ mod membership;
 mod operations;
 mod operator;
 mod presentations;
+mod tames;
 
 pub use calls::{answer, perform};
 pub use command::{Command, Folding, Shared, Word, check_call, takes, word_named};
 pub use operations::{calculate, combine, negate};
 pub use operator::Operator;
 pub use sg_rows::{CallFault, Fault};
-
-#[cfg(test)]
-mod tests;

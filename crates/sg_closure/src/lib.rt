@@ -10,8 +10,6 @@ mod arf;
 mod marks;
 mod med;
 mod saturated;
-#[cfg(test)]
-mod tests;
 
 pub use arf::{arf_closure, is_arf};
 pub use med::{is_med, is_med_by_generators, med_closure};

@@ -15,8 +15,6 @@ mod degree;
 mod deltas;
 pub mod laws;
 mod least_delta;
-#[cfg(test)]
-mod tests;
 
 pub use degree::catenary;
 pub use deltas::max_delta;

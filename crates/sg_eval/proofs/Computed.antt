@@ -4,6 +4,7 @@ use Rattle.std.specs.Prelude.{IsTrue, ◌<ℤ◌, ◌≤ℤ◌, ◌↔◌}
 use Rattle.sg_value.specs.Data.{int, truth}
 use Rattle.sg_rows.specs.Order.{Plain, Row, IsReply, IsReplyOf, Passes, fits, AreAsked}
 use Rattle.sg_rows.specs.Values.{answers, an_integer, whether}
+use Rattle.sg_rows.proofs.AskLemmas.{admitted}
 use Rattle.sg_rows.proofs.Replying.{delivered, delivers_truth, answers_pass}
 use Rattle.sg_calls.specs.Operations.{calculation}
 use Rattle.sg_calls.specs.Remainders.{IsRemainder}
@@ -26,7 +27,7 @@ passes row d (inr (a, inr (b, inr (c, inr (e, inr (f, h)))))) = record { size = 
 
 -- a value of a row that asks for nothing
 answered : (row : Row) (d : Plain) → row.late ≡ [] → IsReplyOf row (Ok d) → IsReplyOf row (Ok d) × AreAsked (fits [] row) []
-answered row d late h = (h, inl (passes row d h, sym late))
+answered row d late h = (h, inl (admitted row (passes row d h), sym late))
 
 truth_answer : (b : Bool) (P : Type 0) → (IsTrue b ↔ P) → IsReplyOf (answers (whether P)) (Ok (truth b)) × AreAsked (fits [] (answers (whether P))) []
 truth_answer b P h =

@@ -18,6 +18,7 @@ use Rattle.sg_rows.specs.declared.fault.CallFault.TheVariants.{Script}
 use Rattle.sg_rows.specs.declared.fault.Fault.TheVariants.{UnknownName, WrongCount}
 use Rattle.sg_rows.specs.Kinds.{given}
 use Rattle.sg_rows.specs.Values.{answers}
+use Rattle.sg_rows.proofs.AskLemmas.{admitted}
 use Rattle.sg_rows.proofs.Replying.{answers_pass}
 use Rattle.sg_rows_lists.specs.Concatenations.{concatenated, concatenation_of, left_in}
 use Rattle.sg_rows_lists.specs.Lists.{named as list_named}
@@ -78,7 +79,7 @@ concatenation_asks args = by_lists (concatenated args)
   where
     by_lists : (o : Option (Items Things)) → AreAsked (given o (λ ds. fits [] (answers (λ d. d ≡ list ds)))) []
     by_lists None = refl
-    by_lists (Some ds) = inl (answers_pass (λ d. d ≡ list ds), refl)
+    by_lists (Some ds) = inl (admitted (answers (λ d. d ≡ list ds)) (answers_pass (λ d. d ≡ list ds)), refl)
 
 -- what a list answers in its place is what the command answers
 onto_reply : (s : State) (x : List ℕ) (u v : Value) (lists : List Value) (r : Result (Unit {0}) CallFault) → s.parameters ≡ [] → lookup (bytes_eq x) s.variables ≡ Some (plain (named s.names) u) → AllKnownIn (named s.names) (u ∷ lists)

@@ -23,8 +23,6 @@ mod sequence;
 mod signs;
 mod step;
 mod step_fault;
-#[cfg(test)]
-mod tests;
 mod variable;
 mod variables;
 

@@ -21,8 +21,6 @@ mod length_table;
 mod limits;
 mod listing;
 mod quotient;
-#[cfg(test)]
-mod tests;
 
 pub use deltas::delta_of;
 pub use elements::{catenary_of_element, factorizations, factorizations_within};

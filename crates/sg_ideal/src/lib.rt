@@ -16,8 +16,6 @@ mod made;
 mod moved;
 mod own;
 mod pairs;
-#[cfg(test)]
-mod tests;
 
 pub use fault::IdealFault;
 pub use fold::multiple;

@@ -1,10 +1,7 @@
 -- A pseudo-Frobenius number is told by the generators, and is an entry of the Apery list less the multiplicity.
-use Rattle.std.proofs.Common.{◌≡◌, ℕ, ◌%◌, ◌<◌, ◌≤◌, List, length, get_or, ap, subst, inl, inr, refl, arith}
+use Rattle.std.proofs.Common.{◌≡◌, ℕ, ◌%◌, ◌<◌, List, length, get_or, subst, inl, inr, refl, arith}
 use Rattle.std.specs.Prelude.{ℤ, pos, negsuc, ◌+ℤ◌, ◌-ℤ◌, ◌<ℤ◌, ◌≤ℤ◌}
-use Rattle.std.specs.List.Sorted.{IsStrictlyIncreasing}
-use Rattle.std.proofs.lemmas.Bool.{cases_lt, cases_eq}
 use Rattle.std.proofs.lemmas.Int.{ints, by_lt_z}
-use Rattle.std.proofs.lemmas.List.Kept.{AllPairs-from_increasing}
 use Rattle.sg_defs.specs.Membership.{IsMember, IsIntegerMember, IsNumericalSemigroup}
 use Rattle.sg_defs.specs.Apery.{IsAperyEntry}
 use Rattle.sg_defs.specs.Invariants.{IsFrobenius, IsPseudoFrobenius}
@@ -38,20 +35,6 @@ pseudo_frobenius-generators G x s p i l = p.absorbed (get_or G i 0) (omega (arit
 -- what is no member is at most the Frobenius number
 pub outside-below : (G : List ℕ) (f x : ℤ) → IsFrobenius G f → (IsIntegerMember G x → ⊥) → x ≤ℤ f
 outside-below G f x h outside = by_lt_z f x (λ less. absurd (outside (h.above x less))) (λ more. more)
-
--- where the k-th generator moves x past the Frobenius number, so does each later one
-pub absorbed-from_front : (G : List ℕ) (f x : ℤ) (k : ℕ) → IsFrobenius G f → IsStrictlyIncreasing G → f <ℤ (x +ℤ pos (get_or G k 0)) →
-    ((i : ℕ) → i < k → IsIntegerMember G (x +ℤ pos (get_or G i 0))) → (i : ℕ) → i < length G → IsIntegerMember G (x +ℤ pos (get_or G i 0))
-absorbed-from_front G f x k h up far front i inside = elim (cases_lt i k) [
-  | inl less ↦ front i less
-  | inr more ↦ h.above (x +ℤ pos (get_or G i 0)) (let a = later more in omega (arith, ints, far))
-]
-  where
-    later : k ≤ i → get_or G k 0 ≤ get_or G i 0
-    later l = elim (cases_eq k i) [
-      | inl e ↦ omega (arith, ap (λ j. get_or G j 0) e)
-      | inr other ↦ omega (arith, AllPairs-from_increasing G up k i 0 (omega arith) inside)
-    ]
 
 -- a pseudo-Frobenius number and the modulus is an entry of the Apery list
 pub maximal-entry : (G : List ℕ) (m w : ℕ) → 0 < m → IsMember G m → IsMaximalEntry G m w → IsAperyEntry G m (w % m) w

@@ -9,8 +9,6 @@
 mod gap_lists;
 mod numbers;
 mod pseudo;
-#[cfg(test)]
-mod tests;
 
 pub use gap_lists::{fundamental_gaps, gaps, small_elements};
 pub use numbers::{conductor, frobenius, genus};

@@ -1,6 +1,7 @@
 //! The pseudo-Frobenius numbers and the special gaps.
 
 ghost use Rattle.std.specs.Prelude.{◌≡◌, ◌<◌, ◌≤◌, ℕ, pos, negsuc, neg_ℤ, ◌+ℤ◌, ◌-ℤ◌, ◌≤ℤ◌, ◌<ℤ◌, length, map, slice_index, EachIndex, IfOk, IsTrue, ◌↔◌};
+ghost use Rattle.std.specs.List.Sorted.{IsStrictlyIncreasing};
 ghost use Rattle.sg_defs.specs.Listings.{ListsIntegers};
 ghost use Rattle.sg_defs.specs.Membership.{IsIntegerMember};
 ghost use Rattle.sg_defs.specs.Invariants.{IsFrobenius, IsPseudoFrobenius, IsSpecialGap};
@@ -11,8 +12,27 @@ use sg_apery::{APERY_ENTRY_LIMIT, MULTIPLICITY_LIMIT, Table};
 use sg_nat::Ints;
 use std::alloc::{AllocError, Global};
 
-/// Whether a number outside is pseudo-Frobenius: each generator moves it to a member. The generators ascend, so the
-/// first that moves it past the Frobenius number ends the search.
+/// How many of ascending numbers are at most another.
+fn count_up_to(numbers: &[u64], most: u64) -> usize
+    requires { IsStrictlyIncreasing numbers.now }
+    ensures inside { result ≤ length numbers.now }
+    ensures after { (k : ℕ) → result ≤ k → k < length numbers.now → most < slice_index numbers.now k }
+{
+    numbers.partition_point(|number| *number <= most)
+}
+
+/// Whether the generator at a place moves a number to a member.
+fn is_moved_inside(table: &Table, x: i64, place: usize) -> bool
+    requires high { x <ℤ pos APERY_ENTRY_LIMIT }
+    requires low { neg_ℤ (pos MULTIPLICITY_LIMIT) ≤ℤ x }
+    requires place { place < length table.now }
+    ensures { IsTrue result ↔ IsIntegerMember table.now (x +ℤ pos (slice_index table.now place)) }
+{
+    table.contains(x + table.generators().as_slice()[place] as i64)
+}
+
+/// Whether a number outside is pseudo-Frobenius: each generator moves it to a member. Those that move it past the
+/// Frobenius number do. The others are tried from both ends, since the first or the last mostly tells where one does not.
 fn is_pseudo_frobenius(table: &Table, x: i64, frobenius: i64) -> bool
     requires frobenius { IsFrobenius table.now frobenius }
     requires high { frobenius <ℤ pos APERY_ENTRY_LIMIT }
@@ -21,11 +41,9 @@ fn is_pseudo_frobenius(table: &Table, x: i64, frobenius: i64) -> bool
     ensures { IsTrue result ↔ IsPseudoFrobenius table.now x }
 {
     let reach = (frobenius - x) as u64;
-    for generator in table.generators().as_slice() {
-        if *generator > reach {
-            return true;
-        }
-        if !table.contains(x + *generator as i64) {
+    let count = count_up_to(table.generators().as_slice(), reach);
+    for step in 0..count.div_ceil(2) {
+        if !is_moved_inside(table, x, step) || !is_moved_inside(table, x, count - 1 - step) {
             return false;
         }
     }

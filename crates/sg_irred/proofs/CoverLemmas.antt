@@ -1,22 +1,15 @@
 -- The cover of a gap h: the members, and the numbers past half of h for which h less the number is no member. It is
 -- closed under sums.
-use Rattle.std.proofs.Common.{◌≡◌, ℕ, zero, suc, ◌+◌, ◌-◌, ◌*◌, ◌%◌, ◌<◌, ◌≤◌, ◌↔◌, List, [], ◌∷◌, ◌++◌, length, get_or, set, refl, sym, ap, subst, ◌∙◌, inl, inr, arith}
+use Rattle.std.proofs.Common.{◌≡◌, ℕ, zero, suc, ◌+◌, ◌-◌, ◌*◌, ◌%◌, ◌<◌, ◌≤◌, ◌↔◌, List, [], ◌∷◌, ◌++◌, length, get_or, refl, sym, ap, subst, ◌∙◌, inl, inr, arith}
 use Rattle.std.specs.Prelude.{◌⊎◌, ℤ, pos, negsuc, ◌+ℤ◌, ◌-ℤ◌, ◌<ℤ◌, ◌≤ℤ◌}
-use Rattle.std.proofs.lemmas.Bool.{cases_lt, cases_eq}
+use Rattle.std.proofs.lemmas.Bool.{cases_lt}
 use Rattle.std.proofs.lemmas.Int.{ints, by_lt_z}
 use Rattle.std.proofs.lemmas.Nat.{mod_below}
-use Rattle.std.proofs.lemmas.List.{length_push, length-set, get_or-set_same, get_or-set_other, get_or_default, get_or_append_left, get_or_push}
+use Rattle.std.proofs.lemmas.List.{length_push, get_or_append_left, get_or_push}
 use Rattle.std.proofs.Math.Nat.{add-mod_right, mod-eq_of_lt}
 use Rattle.sg_defs.specs.Membership.{IsMember, IsIntegerMember, Generates}
-use Rattle.sg_defs.specs.Invariants.{IsFrobenius}
 use Rattle.sg_classes.specs.Classes.{IsAboveEntry, IsKunz}
-use Rattle.sg_classes.specs.Fit.{IsPastLimits, IsSpan, IsTooLarge}
-use Rattle.sg_classes.specs.declared.limits.TheConstants.{GENERATOR_LIMIT, MULTIPLICITY_LIMIT, SPAN_LIMIT}
 use Rattle.sg_classes.proofs.AperyLemmas.{congruent-split}
-use Rattle.sg_defs.proofs.MinimalLemmas.{first-least}
-use Rattle.sg_classes.proofs.GeneratorLemmas.{member-split}
-use Rattle.sg_classes.proofs.OneListLemmas.{entry-listed}
-use Rattle.sg_classes.proofs.KunzLemmas.{class-semigroup, member-made, above-member}
 use Rattle.sg_classes.proofs.ResidueLemmas.{residue-sum}
 use Rattle.sg_irred.specs.Cover.{HasLesser, IsLeastInCover, IsCoverList}
 use Rattle.sg_defs.specs.Decomposition.{IsInCover}
@@ -97,10 +90,6 @@ cover_list-push G h n w l here before = record {
   ];
 }
 
--- the entries, and the modulus in place of the first
-abbrev class_list : List ℕ → List ℕ
-class_list t = set t 0 (length t)
-
 module _ (G : List ℕ) (h : ℤ) (m : ℕ) (l : List ℕ) (natural : pos 0 ≤ℤ h) (positive : 0 < m) (first : m ≡ get_or G 0 0) (modulus : IsMember G m) (c : IsCoverList G h (get_or G 0 0) l) where
   long : length l ≡ m
   long = c.entries ∙ sym first
@@ -161,51 +150,7 @@ module _ (G : List ℕ) (h : ℤ) (m : ℕ) (l : List ℕ) (natural : pos 0 ≤�
     same = λ n. ((λ p. (g.same n).0 ((above-cover n).1 p)), (λ q. (above-cover n).0 ((g.same n).1 q)));
   }
 
-  -- an entry past the Frobenius number and the multiplicity would leave a member once the multiplicity is taken away
-  small-entry : (f : ℤ) → IsFrobenius G f → (i : ℕ) → i < m → pos (get_or l i 0) ≤ℤ (f +ℤ pos m)
-  small-entry f p i inside = by_lt_z (f +ℤ pos m) (pos (get_or l i 0)) (λ (past : (f +ℤ pos m) <ℤ pos (get_or l i 0)). absurd (far past)) (λ within. within)
-    where
-      far : (f +ℤ pos m) <ℤ pos (get_or l i 0) → ⊥
-      far past = elim (cases_lt (get_or l i 0) m) [
-        | inl less ↦ outside-negative f p (omega (arith, ints, past, less))
-        | inr more ↦
-            let y = get_or l i 0 - m in
-            let e : y + get_or G 0 0 ≡ get_or l i 0 = omega (arith, more, first) in
-            (entry i inside).least (y, e, inl (p.above (pos y) (omega (arith, ints, past, more))))
-      ]
-        where
-          outside-negative : (f : ℤ) → IsFrobenius G f → f <ℤ negsuc 0 → ⊥
-          outside-negative f p less = p.above (negsuc 0) less
-
-  -- the minimal list is within the limits where those two together are
-  pub cover-fit : (f : ℤ) (M : List ℕ) → IsFrobenius G f → (f +ℤ pos m) <ℤ pos GENERATOR_LIMIT → m ≤ MULTIPLICITY_LIMIT → m < GENERATOR_LIMIT →
-      Generates (IsAboveEntry l) M → IsPastLimits M → ⊥
-  cover-fit f M p room short low g past = elim past [
-    | inl wide ↦ elim (member-split M m ((g.same m).0 ((above-cover m).1 (inl modulus)))) [
-      | inl none ↦ omega (arith, none, positive)
-      | inr q ↦ omega (arith, q.4, wide, short, first-least M g.minimal.ascending q.0 q.2)
-    ]
-    | inr large ↦ listed large.0 large.1 large.2
-  ]
-    where
-      listed : (k : ℕ) → k < length M → GENERATOR_LIMIT ≤ get_or M k 0 → ⊥
-      listed k inside big =
-          let c = cover-kunz.classes in
-          let s = class-semigroup l (class_list l) c (λ x q. q) (λ x q. q) in
-          let at = entry-listed (IsAboveEntry l) M (class_list l) g s
-          (λ n. (member-made l (class_list l) c (λ x q. q) n, above-member l cover-kunz (class_list l) (λ x q. q) n)) k inside in
-          small at.0 (omega (arith, at.1, length-set l 0 (length l))) (get_or_default (class_list l) at.0 0 (get_or M k 0) at.1 ∙ at.2) big
-        where
-          small : (j : ℕ) → j < length l → get_or (class_list l) j 0 ≡ get_or M k 0 → GENERATOR_LIMIT ≤ get_or M k 0 → ⊥
-          small j j_in e big = elim (cases_eq j 0) [
-            | inl zero_place ↦ omega (arith, e, big, low, long, subst (λ j. get_or (class_list l) j 0 ≡ length l) (sym zero_place) (get_or-set_same l 0 (length l) 0 (omega arith)))
-            | inr other ↦
-                let within = small-entry f p j (omega (arith, j_in, long)) in
-                let same = get_or-set_other l 0 j (length l) 0 other in
-                omega (arith, ints, within, room, same, e, big)
-          ]
-
--- such a list is never refused where the span is within its limit
+-- such a list without premises on the multiplicity
 module _ (G : List ℕ) (h : ℤ) (l : List ℕ) (natural : pos 0 ≤ℤ h) (c : IsCoverList G h (get_or G 0 0) l) (not_empty : 0 < length l) where
   some : 0 < get_or G 0 0
   some = omega (arith, c.entries, not_empty)
@@ -220,10 +165,3 @@ module _ (G : List ℕ) (h : ℤ) (l : List ℕ) (natural : pos 0 ≤ℤ h) (c :
   -- what they generate is the cover
   pub list-generates : (M : List ℕ) → Generates (IsAboveEntry l) M → Generates (IsInCover G h) M
   list-generates = cover-generates G h (get_or G 0 0) l natural some refl first_member c
-
-  -- it is within the limits
-  pub list-fits : length l ≤ MULTIPLICITY_LIMIT → (s : ℕ) → IsSpan G s → s ≤ SPAN_LIMIT → IsTooLarge (IsAboveEntry l) → ⊥
-  list-fits short s span within large =
-      let e = span.2 in
-      let room : (span.0 +ℤ pos (get_or G 0 0)) <ℤ pos GENERATOR_LIMIT = omega (arith, ints, e, within) in
-      cover-fit G h (get_or G 0 0) l natural some refl first_member c span.0 large.0 span.1 room (omega (arith, short, c.entries)) (omega (arith, short, c.entries)) large.1 large.2

@@ -6,8 +6,9 @@ ghost use Rattle.sg_defs.specs.Membership.{Generates};
 ghost use Rattle.sg_lawful.specs.Spans.{IsShort};
 ghost use Rattle.sg_irred.specs.Cover.{HasLesser, IsLeastInCover, IsCoverList};
 
-use sg_apery::{APERY_ENTRY_LIMIT, MULTIPLICITY_LIMIT, Table, TableFault};
+use sg_apery::{APERY_ENTRY_LIMIT, Table};
 use sg_nat::Nats;
+use sg_tables::kunz_generators;
 use std::alloc::{AllocError, Global};
 
 /// Whether a number lies in the cover of `h`: it is a member, or it is past half of `h` while `h` less it is none.
@@ -60,7 +61,6 @@ fn cover_list(alloc: Global, table: &Table, h: i64) -> Result<Vec<u64>, AllocErr
     requires high { h ≤ℤ pos APERY_ENTRY_LIMIT }
     ensures list { IfOk result (λ list. IsCoverList table.now h (slice_index table.now 0) list.items) }
     ensures not_empty { IfOk result (λ list. 0 < length list.items) }
-    ensures short { IfOk result (λ list. length list.items ≤ MULTIPLICITY_LIMIT) }
 {
     let mut list = Vec::new(alloc);
     for i in 0..table.multiplicity() as usize {
@@ -71,7 +71,8 @@ fn cover_list(alloc: Global, table: &Table, h: i64) -> Result<Vec<u64>, AllocErr
 
 /// The minimal generators of the cover of `h`: the members, all numbers above `h`, and of two numbers with the sum `h`,
 /// of which neither is a member, the greater. Where `h` is a gap it is the Frobenius number of the cover, which is
-/// irreducible (Rosales and Garcia-Sanchez).
+/// irreducible (Rosales and Garcia-Sanchez). The least numbers of its classes meet Kunz's conditions, so its generators
+/// are read off them and no table is made.
 pub fn cover(alloc: Global, table: &Table, h: i64) -> Result<Nats, AllocError>
     requires natural { pos 0 ≤ℤ h }
     requires high { h ≤ℤ pos APERY_ENTRY_LIMIT }
@@ -79,10 +80,5 @@ pub fn cover(alloc: Global, table: &Table, h: i64) -> Result<Nats, AllocError>
     ensures { IfOk result (Generates (IsInCover table.now h)) }
 {
     let list = cover_list(alloc, table, h)?;
-    match Table::from_apery(alloc, &list) {
-        Ok(covering) => covering.generators().try_clone(),
-        Err(TableFault::Memory(error)) => Err(error),
-        Err(TableFault::BadArgument) => unreachable!(),
-        Err(TableFault::TooLarge) => unreachable!(),
-    }
+    kunz_generators(alloc, &list)
 }

@@ -9,8 +9,6 @@
 mod cover_of;
 mod decomposition;
 mod symmetry;
-#[cfg(test)]
-mod tests;
 
 pub use cover_of::cover;
 pub use decomposition::decompose;

@@ -17,8 +17,6 @@ mod limits;
 mod parts;
 mod primality;
 mod readings;
-#[cfg(test)]
-mod tests;
 mod walk;
 
 pub use limits::OMEGA_LIMIT;

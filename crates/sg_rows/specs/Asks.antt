@@ -2,11 +2,12 @@
 use Rattle.std.specs.Prelude.{ℕ, List, [], ◌∷◌, ◌++◌, map}
 
 -- what is kept of a semigroup once it was asked for: its Apery table, its pseudo-Frobenius numbers, its canonical minimal
--- presentation
+-- presentation, its tame degree
 pub data Attribute : Type 0 where
   apery_table : Attribute
   pseudo_frobenius : Attribute
   presentation : Attribute
+  tame_degree : Attribute
 
 -- an attribute of the semigroup with these minimal generators was asked for
 abbrev pub Asking : Type 0

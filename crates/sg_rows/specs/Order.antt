@@ -27,7 +27,7 @@ pub record Row : Type 1 where
   pub many : Type 0
   -- the budget of steps is spent
   pub budget : Type 0
-  -- this is asked for once none of these refusals comes
+  -- this is asked for once none of the first three refusals comes: what follows may be known from it alone
   pub late : List Asking
   -- this is the value
   pub value : Plain → Type 0
@@ -81,11 +81,17 @@ pub record Passes (row : Row) : Type 0 where
   pub many : ¬ row.many
   pub budget : ¬ row.budget
 
--- one of the row's own refusals comes
-abbrev pub Refuses : Row → Type 0
-Refuses row = row.size ⊎ (row.bad ⊎ (row.limit ⊎ (row.many ⊎ row.budget)))
+-- the arguments are neither too large nor bad
+pub record Admits (row : Row) : Type 0 where
+  pub size : ¬ row.size
+  pub bad : ¬ row.bad
+  pub limit : ¬ row.limit
 
--- what is asked for on the way to a reply, in order: also where the row refuses what it asks for at once
+-- they are
+abbrev pub Bars : Row → Type 0
+Bars row = row.size ⊎ (row.bad ⊎ row.limit)
+
+-- what is asked for on the way to a reply, in order: also where the arguments are refused what the row asks for at once
 abbrev pub AreAsked : Case → List Asking → Type 0
 AreAsked unfit asked = asked ≡ []
-AreAsked (fits early row) asked = (Passes row × (asked ≡ early ++ row.late)) ⊎ (Refuses row × (asked ≡ early))
+AreAsked (fits early row) asked = (Admits row × (asked ≡ early ++ row.late)) ⊎ (Bars row × (asked ≡ early))

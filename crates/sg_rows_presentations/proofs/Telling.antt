@@ -13,7 +13,7 @@ use Rattle.sg_laws_invariants.proofs.Decisions.{decided-and, decided-le, decided
 use Rattle.sg_laws_invariants.proofs.SpansExist.{span-exists, span-one}
 use Rattle.sg_rows.specs.Asks.{presentation}
 use Rattle.sg_rows.specs.Made.{datum, IsSound, Tells, AreWithinBits}
-use Rattle.sg_rows.specs.Order.{Passes, Refuses, IsReplyOf}
+use Rattle.sg_rows.specs.Order.{Passes, Bars, IsReplyOf}
 use Rattle.sg_rows.specs.declared.fault.Fault.TheVariants.{TooLarge}
 use Rattle.sg_rows.specs.declared.made.Made.TheVariants.{Natural, Naturals, VectorLists}
 use Rattle.sg_rows.specs.declared.made.Made.{Made}
@@ -51,11 +51,11 @@ passes CatenaryDegree G h = record { size = no; bad = no; limit = λ n. n h; man
 passes MaximumDelta G h = record { size = no; bad = no; limit = λ n. n h; many = no; budget = no }
 passes MinimalPresentation G h = record { size = no; bad = no; limit = λ n. n h; many = no; budget = no }
 
-pub refuses : (f : PresentationFact) (G : List ℕ) → ¬ IsPresentable G → Refuses (presentation_row f G) × IsReplyOf (presentation_row f G) (Err TooLarge)
-refuses BettiElements G n = (inr (inr (inl n)), inr (no, inr (no, inl (n, refl))))
-refuses CatenaryDegree G n = (inr (inr (inl n)), inr (no, inr (no, inl (n, refl))))
-refuses MaximumDelta G n = (inr (inr (inl n)), inr (no, inr (no, inl (n, refl))))
-refuses MinimalPresentation G n = (inr (inr (inl n)), inr (no, inr (no, inl (n, refl))))
+pub refuses : (f : PresentationFact) (G : List ℕ) → ¬ IsPresentable G → Bars (presentation_row f G) × IsReplyOf (presentation_row f G) (Err TooLarge)
+refuses BettiElements G n = (inr (inr n), inr (no, inr (no, inl (n, refl))))
+refuses CatenaryDegree G n = (inr (inr n), inr (no, inr (no, inl (n, refl))))
+refuses MaximumDelta G n = (inr (inr n), inr (no, inr (no, inl (n, refl))))
+refuses MinimalPresentation G n = (inr (inr n), inr (no, inr (no, inl (n, refl))))
 
 -- a row that does not refuse is of a semigroup whose presentation is written out
 pub not_refused : (f : PresentationFact) (G : List ℕ) → IsNumericalSemigroup G → Passes (presentation_row f G) → IsPresentable G

@@ -8,7 +8,7 @@ use Rattle.sg_nonunique.specs.Deltas.{IsMaxDelta, IsMinDelta}
 use Rattle.sg_nonunique.specs.Presentations.{IsCanonical, Relation}
 use Rattle.sg_betti.specs.Limits.{IsPresentable}
 use Rattle.sg_rows.specs.Asks.{presentation}
-use Rattle.sg_rows.specs.Order.{Plain, Row, IsReplyOf, Passes, Refuses}
+use Rattle.sg_rows.specs.Order.{Plain, Row, IsReplyOf, Passes, Bars}
 use Rattle.sg_rows.specs.Values.{answers, a_natural, a_natural_or_fail, naturals_with, vector_lists_with}
 use Rattle.sg_rows.specs.declared.fault.Fault.{Fault}
 use Rattle.sg_rows.specs.declared.made.Made.{Made}
@@ -44,7 +44,7 @@ abbrev pub made_of : Option ℕ → Made
 made_of None = Fail
 made_of (Some n) = Natural n
 
--- told whether the row refuses: it does not, or the fault is its first refusal
+-- told whether the row refuses: it does not, or it bars the semigroup and the fault is its first refusal
 abbrev pub Checked : Result (Unit {0}) Fault → Row → Type 0
 Checked (Ok _) row = Passes row
-Checked (Err e) row = Refuses row × IsReplyOf row (Err e)
+Checked (Err e) row = Bars row × IsReplyOf row (Err e)

@@ -12,8 +12,6 @@ pub mod laws;
 mod limits;
 mod reader;
 mod statement;
-#[cfg(test)]
-mod tests;
 
 pub use fault::ParseFault;
 pub use limits::NESTING_LIMIT;

@@ -24,36 +24,49 @@ pub record Attributes : Type 0 where
   pub tables : State
   pub pseudo : State
   pub presentations : State
+  pub tames : State
 
 -- with room for so many of each, of which nothing was asked for
 abbrev pub nothing_asked : ℕ → Attributes
-nothing_asked capacity = record { tables = empty capacity; pseudo = empty capacity; presentations = empty capacity }
+nothing_asked capacity = record { tables = empty capacity; pseudo = empty capacity; presentations = empty capacity; tames = empty capacity }
 
--- after the table of this semigroup was asked for, its pseudo-Frobenius numbers, or its presentation
+-- after the table of this semigroup was asked for, its pseudo-Frobenius numbers, its presentation, or its tame degree
 abbrev pub table_answered : List ℕ → Attributes → Attributes
-table_answered gens a = record { tables = answered gens a.tables; pseudo = a.pseudo; presentations = a.presentations }
+table_answered gens a = record { tables = answered gens a.tables; pseudo = a.pseudo; presentations = a.presentations; tames = a.tames }
 
 abbrev pub numbers_answered : List ℕ → Attributes → Attributes
-numbers_answered gens a = record { tables = a.tables; pseudo = answered gens a.pseudo; presentations = a.presentations }
+numbers_answered gens a = record { tables = a.tables; pseudo = answered gens a.pseudo; presentations = a.presentations; tames = a.tames }
 
 abbrev pub presentation_answered : List ℕ → Attributes → Attributes
-presentation_answered gens a = record { tables = a.tables; pseudo = a.pseudo; presentations = answered gens a.presentations }
+presentation_answered gens a = record { tables = a.tables; pseudo = a.pseudo; presentations = answered gens a.presentations; tames = a.tames }
 
--- after no table was given for want of memory, no numbers, or no presentation
+abbrev pub tame_answered : List ℕ → Attributes → Attributes
+tame_answered gens a = record { tables = a.tables; pseudo = a.pseudo; presentations = a.presentations; tames = answered gens a.tames }
+
+-- after no table was given for want of memory, no numbers, no presentation, or no tame degree
 pub record IsAfterNoTable (old new : Attributes) : Type 0 where
   pub tables : IsAfterRefusal old.tables new.tables
   pub pseudo : new.pseudo ≡ old.pseudo
   pub presentations : new.presentations ≡ old.presentations
+  pub tames : new.tames ≡ old.tames
 
 pub record IsAfterNoNumbers (old new : Attributes) : Type 0 where
   pub tables : new.tables ≡ old.tables
   pub pseudo : IsAfterRefusal old.pseudo new.pseudo
   pub presentations : new.presentations ≡ old.presentations
+  pub tames : new.tames ≡ old.tames
 
 pub record IsAfterNoPresentation (old new : Attributes) : Type 0 where
   pub tables : new.tables ≡ old.tables
   pub pseudo : new.pseudo ≡ old.pseudo
   pub presentations : IsAfterRefusal old.presentations new.presentations
+  pub tames : new.tames ≡ old.tames
+
+pub record IsAfterNoTame (old new : Attributes) : Type 0 where
+  pub tables : new.tables ≡ old.tables
+  pub pseudo : new.pseudo ≡ old.pseudo
+  pub presentations : new.presentations ≡ old.presentations
+  pub tames : IsAfterRefusal old.tames new.tames
 
 -- how often each was asked for and made
 pub record AreCounts (a : Attributes) (c : Counts) : Type 0 where
@@ -63,3 +76,5 @@ pub record AreCounts (a : Attributes) (c : Counts) : Type 0 where
   pub pseudo_made : c.pseudo_made ≡ a.pseudo.made
   pub presentations_asked : c.presentations_asked ≡ a.presentations.asked
   pub presentations_made : c.presentations_made ≡ a.presentations.made
+  pub tames_asked : c.tames_asked ≡ a.tames.asked
+  pub tames_made : c.tames_made ≡ a.tames.made

@@ -2,14 +2,17 @@
 
 ghost use Rattle.std.specs.Prelude.{◌≡◌, IfOk, OnOk, OnErr};
 ghost use Rattle.sg_lawful.specs.Lawful.{IsLawfulList};
-ghost use Rattle.sg_store.specs.Attributes.{IsTableOf, AreNumbersOf, IsPresentationOf, nothing_asked, table_answered, numbers_answered, presentation_answered, IsAfterNoTable, IsAfterNoNumbers, IsAfterNoPresentation, AreCounts};
+ghost use Rattle.sg_store.specs.Attributes.{IsTableOf, AreNumbersOf, IsPresentationOf, nothing_asked, table_answered, numbers_answered, presentation_answered, tame_answered, IsAfterNoTable, IsAfterNoNumbers, IsAfterNoPresentation, IsAfterNoTame, AreCounts};
+ghost use Rattle.sg_store.specs.Fit.{IsTameable};
+ghost use Rattle.sg_tame.specs.Answers.{IsTameAnswer};
 
-use crate::makers::{MakesPresentations, MakesPseudo, MakesTables};
-use crate::questions::{PresentationQ, PseudoQ, TableQ};
+use crate::makers::{MakesPresentations, MakesPseudo, MakesTables, MakesTames};
+use crate::questions::{PresentationQ, PseudoQ, TableQ, TameQ};
 use sg_apery::Table;
 use sg_betti::Presentation;
 use sg_memo::{Kept, Memo};
 use sg_nat::{Ints, Nats};
+use sg_tame::TameAnswer;
 use std::alloc::{AllocError, Global};
 use std::marker::Model;
 use std::rc::Rc;
@@ -23,15 +26,18 @@ pub struct Counts {
     pub pseudo_made: u64,
     pub presentations_asked: u64,
     pub presentations_made: u64,
+    pub tames_asked: u64,
+    pub tames_made: u64,
 }
 
-/// Tables, pseudo-Frobenius numbers and canonical minimal presentations by the minimal generators of their semigroups.
-/// Contracts see what each memo keeps and counts.
+/// Tables, pseudo-Frobenius numbers, canonical minimal presentations and tame degrees by the minimal generators of their
+/// semigroups. Contracts see what each memo keeps and counts.
 #[derive(Drop)]
 pub struct Attributes {
     tables: Memo<TableQ, MakesTables>,
     pseudo: Memo<PseudoQ, MakesPseudo>,
     presentations: Memo<PresentationQ, MakesPresentations>,
+    tames: Memo<TameQ, MakesTames>,
 }
 
 impl Model for Attributes {
@@ -40,7 +46,7 @@ impl Model for Attributes {
 
     ghost Value = { Attributes };
 
-    ghost view = { λ a. record { tables = a.tables; pseudo = a.pseudo; presentations = a.presentations } };
+    ghost view = { λ a. record { tables = a.tables; pseudo = a.pseudo; presentations = a.presentations; tames = a.tames } };
 
     ghost invariant = { λ _. ⊤ };
 }
@@ -54,6 +60,7 @@ impl Attributes {
             tables: Memo::new(alloc, Kept::new(MakesTables), capacity)?,
             pseudo: Memo::new(alloc, Kept::new(MakesPseudo), capacity)?,
             presentations: Memo::new(alloc, Kept::new(MakesPresentations), capacity)?,
+            tames: Memo::new(alloc, Kept::new(MakesTames), capacity)?,
         })
     }
 
@@ -91,6 +98,16 @@ impl Attributes {
         self.presentations.get(alloc, gens)
     }
 
+    /// The tame degree of the semigroup with these minimal generators, or that it is not told.
+    pub fn tame(&mut self, alloc: Global, gens: &Nats) -> Result<Rc<TameAnswer>, AllocError>
+        requires { IsTameable gens.now }
+        ensures answer { IfOk result (λ answer. IsTameAnswer gens.now answer.value) }
+        ensures ok { OnOk result (self.new ≡ tame_answered gens.now self.old) }
+        ensures err { OnErr result (IsAfterNoTame self.old self.new) }
+    {
+        self.tames.get(alloc, gens)
+    }
+
     /// How often each was asked for and made.
     pub fn counts(&self) -> Counts
         ensures { AreCounts self.now result }
@@ -102,6 +119,8 @@ impl Attributes {
             pseudo_made: self.pseudo.made(),
             presentations_asked: self.presentations.asked(),
             presentations_made: self.presentations.made(),
+            tames_asked: self.tames.asked(),
+            tames_made: self.tames.made(),
         }
     }
 }

@@ -19,6 +19,3 @@ mod store;
 pub use attributes::{Attributes, Counts};
 pub use ids::Ids;
 pub use store::Store;
-
-#[cfg(test)]
-mod tests;

@@ -3,12 +3,15 @@
 ghost use Rattle.std.specs.Prelude.{IfOk};
 ghost use Rattle.sg_lawful.specs.Lawful.{IsLawfulList};
 ghost use Rattle.sg_store.specs.Attributes.{IsTableOf, AreNumbersOf, IsPresentationOf};
+ghost use Rattle.sg_store.specs.Fit.{IsTameable};
+ghost use Rattle.sg_tame.specs.Answers.{IsTameAnswer};
 
 use sg_apery::Table;
 use sg_betti::{Presentation, presentation};
 use sg_invar::pseudo_frobenius;
 use sg_memo::Makes;
 use sg_nat::{Ints, Nats};
+use sg_tame::{TameAnswer, tame};
 use std::alloc::{AllocError, Global};
 
 /// The table.
@@ -35,6 +38,15 @@ fn presentation_of(alloc: Global, gens: &Nats) -> Result<Presentation, AllocErro
 {
     let table = table_of(alloc, gens)?;
     presentation(alloc, &table)
+}
+
+/// The tame degree. It is made from a table of its own, which is no asking.
+fn tame_of(alloc: Global, gens: &Nats) -> Result<TameAnswer, AllocError>
+    requires { IsTameable gens.now }
+    ensures { IfOk result (λ answer. IsTameAnswer gens.now answer) }
+{
+    let table = table_of(alloc, gens)?;
+    tame(alloc, &table)
 }
 
 /// Makes tables.
@@ -85,5 +97,22 @@ impl Makes<Presentation> for MakesPresentations {
 
     fn make(&self, alloc: Global, gens: &Nats) -> Result<Presentation, AllocError> {
         presentation_of(alloc, gens)
+    }
+}
+
+/// Makes tame degrees.
+#[derive(Drop)]
+pub struct MakesTames;
+
+impl Makes<TameAnswer> for MakesTames {
+    ghost use Rattle.sg_tame.specs.Answers.{IsTameAnswer};
+    ghost use Rattle.sg_store.specs.Fit.{IsTameable};
+
+    ghost takes = { λ _ gens. IsTameable gens };
+
+    ghost gives = { λ _ gens answer. IsTameAnswer gens answer };
+
+    fn make(&self, alloc: Global, gens: &Nats) -> Result<TameAnswer, AllocError> {
+        tame_of(alloc, gens)
     }
 }

@@ -4,6 +4,7 @@ use sg_apery::Table;
 use sg_betti::Presentation;
 use sg_memo::Question;
 use sg_nat::Ints;
+use sg_tame::TameAnswer;
 
 /// The table.
 #[derive(Drop)]
@@ -57,4 +58,22 @@ impl Question for PresentationQ {
     ghost is_answer = { IsPresentationOf };
 
     ghost one_answer = { one_presentation };
+}
+
+/// The tame degree, or that it is not told. It is asked of semigroups within the limits of `sg_tame`.
+#[derive(Drop)]
+pub struct TameQ;
+
+impl Question for TameQ {
+    type Answer = TameAnswer;
+
+    ghost use Rattle.sg_tame.specs.Answers.{IsTameAnswer};
+    ghost use Rattle.sg_store.specs.Fit.{IsTameable};
+    ghost use Rattle.sg_store.specs.OneAttribute.{one_tame_answer};
+
+    ghost askable = { IsTameable };
+
+    ghost is_answer = { IsTameAnswer };
+
+    ghost one_answer = { one_tame_answer };
 }

@@ -1,14 +1,17 @@
 //! The store.
 
 ghost use Rattle.std.specs.Prelude.{◌≡◌, [], slice_get, Some, IsSome, IfOk, OnOk, OnErr};
-ghost use Rattle.sg_store.specs.Attributes.{AreNumbersOf, IsPresentationOf, nothing_asked, table_answered, numbers_answered, presentation_answered, IsAfterNoTable, IsAfterNoNumbers, IsAfterNoPresentation};
+ghost use Rattle.sg_store.specs.Attributes.{AreNumbersOf, IsPresentationOf, nothing_asked, table_answered, numbers_answered, presentation_answered, tame_answered, IsAfterNoTable, IsAfterNoNumbers, IsAfterNoPresentation, IsAfterNoTame};
 ghost use Rattle.sg_store.specs.Held.{list_at};
+ghost use Rattle.sg_classes.specs.Fit.{IsNarrow};
+ghost use Rattle.sg_tame.specs.Answers.{IsTameAnswer, IsWithinLimit};
 
 use crate::attributes::Attributes;
 use crate::ids::Ids;
 use sg_apery::Table;
 use sg_betti::Presentation;
 use sg_nat::Ints;
+use sg_tame::TameAnswer;
 use sg_value::SemId;
 use std::alloc::{AllocError, Global};
 use std::rc::Rc;
@@ -68,5 +71,18 @@ impl Store {
         ensures err { OnErr result (IsAfterNoPresentation self.old.attributes self.new.attributes) }
     {
         self.attributes.presentation(alloc, self.ids.generators(id))
+    }
+
+    /// The tame degree of a known semigroup that is narrow and within the limit of `sg_tame`, or that it is not told.
+    pub fn tame(&mut self, alloc: Global, id: SemId) -> Result<Rc<TameAnswer>, AllocError>
+        requires known { IsSome (slice_get self.old.ids.semigroups id) }
+        requires narrow { IsNarrow (list_at self.old.ids.semigroups id) }
+        requires within { IsWithinLimit (list_at self.old.ids.semigroups id) }
+        ensures answer { IfOk result (λ answer. IsTameAnswer (list_at self.old.ids.semigroups id) answer.value) }
+        ensures ids { self.new.ids ≡ self.old.ids }
+        ensures ok { OnOk result (self.new.attributes ≡ tame_answered (list_at self.old.ids.semigroups id) self.old.attributes) }
+        ensures err { OnErr result (IsAfterNoTame self.old.attributes self.new.attributes) }
+    {
+        self.attributes.tame(alloc, self.ids.generators(id))
     }
 }

@@ -50,59 +50,61 @@ module _ (D t s : List ℕ) (S : IsNumericalSemigroup D) (f : AreFound D t s) (h
       let first : (y % length t + get_or D j 0) % length t ≡ (y % length t + g) % length t = ap (λ x. (y % length t + x) % length t) e in
       first ∙ mod-add-mod y (length t) g ∙ ap (λ x. x % length t) whole
 
-  -- a sum of a generator and a lesser member above 0, by induction on that member: where a greater generator leads to the sum, the rest is less
-  sum-below : (k m w g : ℕ) → ((x : ℕ) → x ≤ m → x < 2 ^ 63 → IsMember D x → IsAboveEntry t x) → w ≤ m + 1 → w < 2 ^ 63 → Contains D g → g < w → w ≤ g + k → IsMember D (w - g) → IsAboveEntry t w
-  sum-below zero m w g before low fits c less near member = absurd (omega arith)
-  sum-below (suc k) m w g before low fits c less near member =
-      let n = length t in
-      let y = w - g in
-      let i = y % n in
-      let inside : i < n = mod_below y n f.not_empty in
-      let some : 0 < g = entry-positive D S g c in
-      let whole : y + g ≡ w = omega (arith, less) in
-      let rest : get_or t i 0 ≤ y = before y (omega (arith, some, low)) (omega (arith, fits)) member in
-      let entry = found-member D t s f i inside (omega (arith, rest, fits)) in
-      elim (cases_lt (get_or t i 0) y) [
-        | inl lesser ↦
-            let v = get_or t i 0 + g in
-            let lower : get_or t (v % n) 0 ≤ v = before v (omega (arith, lesser, whole, low)) (omega (arith, lesser, whole, fits)) (member-add D (get_or t i 0) g entry.0 (member-listed D g c)) in
-            let same : v % n ≡ w % n = same_residue-add (get_or t i 0) y g n entry.1 ∙ ap (λ x. x % n) whole in
-            omega (arith, lower, ap (λ j. get_or t j 0) same, lesser, whole)
-        | inr equal ↦
-            let at : get_or t i 0 ≡ y = omega (arith, equal, rest) in
-            elim (cases_lt h.bound w) [
-              | inl past ↦
-                  let last = mod_below w n f.not_empty in
-                  let top : get_or t (w % n) 0 ≤ h.bound + n = h.top (w % n) last in
-                  let known = found-member D t s f (w % n) last (omega (arith, top, past, fits, f.short)) in
-                  congruent-near n (get_or t (w % n) 0) w f.not_empty (sym known.1) (omega (arith, top, past))
-              | inr within ↦
-                  let p = contains-place D g c in
-                  let same = class-sum y w p.0 g p.2 whole in
-                  elim (h.settled i (entry-after y (omega (arith, less)) at) inside p.0 p.1 (omega (arith, p.2, whole, at, within))) [
-                    | inl (inl above) ↦ omega (arith, above, ap (λ j. get_or t j 0) same, p.2, at, whole)
-                    | inl (inr told) ↦ omega (arith, told.0, ap (λ j. get_or t j 0) same, p.2, at, whole)
-                    | inr passed ↦
-                        let e : get_or t i 0 + get_or D p.0 0 ≡ w = omega (arith, at, p.2, whole) in
-                        sum-below k m w passed.by before low fits passed.listed (omega (arith, passed.less, e)) (omega (arith, passed.greater, p.2, near))
-                        (subst (λ x. IsMember D (x - passed.by)) e passed.rest)
-                  ]
-            ]
-      ]
+  -- where the entries up to a limit and the modulus are members of their classes
+  module _ (L : ℕ) (entries : (i : ℕ) → i < length t → get_or t i 0 < L + length t → IsMember D (get_or t i 0) × (get_or t i 0 % length t ≡ i)) where
+    -- a sum of a generator and a lesser member above 0, by induction on that member: where a greater generator leads to the sum, the rest is less
+    sum-below : (k m w g : ℕ) → ((x : ℕ) → x ≤ m → x < L → IsMember D x → IsAboveEntry t x) → w ≤ m + 1 → w < L → Contains D g → g < w → w ≤ g + k → IsMember D (w - g) → IsAboveEntry t w
+    sum-below zero m w g before low fits c less near member = absurd (omega arith)
+    sum-below (suc k) m w g before low fits c less near member =
+        let n = length t in
+        let y = w - g in
+        let i = y % n in
+        let inside : i < n = mod_below y n f.not_empty in
+        let some : 0 < g = entry-positive D S g c in
+        let whole : y + g ≡ w = omega (arith, less) in
+        let rest : get_or t i 0 ≤ y = before y (omega (arith, some, low)) (omega (arith, fits)) member in
+        let entry = entries i inside (omega (arith, rest, fits)) in
+        elim (cases_lt (get_or t i 0) y) [
+          | inl lesser ↦
+              let v = get_or t i 0 + g in
+              let lower : get_or t (v % n) 0 ≤ v = before v (omega (arith, lesser, whole, low)) (omega (arith, lesser, whole, fits)) (member-add D (get_or t i 0) g entry.0 (member-listed D g c)) in
+              let same : v % n ≡ w % n = same_residue-add (get_or t i 0) y g n entry.1 ∙ ap (λ x. x % n) whole in
+              omega (arith, lower, ap (λ j. get_or t j 0) same, lesser, whole)
+          | inr equal ↦
+              let at : get_or t i 0 ≡ y = omega (arith, equal, rest) in
+              elim (cases_lt h.bound w) [
+                | inl past ↦
+                    let last = mod_below w n f.not_empty in
+                    let top : get_or t (w % n) 0 ≤ h.bound + n = h.top (w % n) last in
+                    let known = entries (w % n) last (omega (arith, top, past, fits)) in
+                    congruent-near n (get_or t (w % n) 0) w f.not_empty (sym known.1) (omega (arith, top, past))
+                | inr within ↦
+                    let p = contains-place D g c in
+                    let same = class-sum y w p.0 g p.2 whole in
+                    elim (h.settled i (entry-after y (omega (arith, less)) at) inside p.0 p.1 (omega (arith, p.2, whole, at, within))) [
+                      | inl (inl above) ↦ omega (arith, above, ap (λ j. get_or t j 0) same, p.2, at, whole)
+                      | inl (inr told) ↦ omega (arith, told.0, ap (λ j. get_or t j 0) same, p.2, at, whole)
+                      | inr passed ↦
+                          let e : get_or t i 0 + get_or D p.0 0 ≡ w = omega (arith, at, p.2, whole) in
+                          sum-below k m w passed.by before low fits passed.listed (omega (arith, passed.less, e)) (omega (arith, passed.greater, p.2, near))
+                          (subst (λ x. IsMember D (x - passed.by)) e passed.rest)
+                    ]
+              ]
+        ]
 
-  -- each member that is not too large, by induction on a bound
-  small-below : (m w : ℕ) → w ≤ m → w < 2 ^ 63 → IsMember D w → IsAboveEntry t w
-  small-below zero w low fits q = subst (IsAboveEntry t) (let e : 0 ≡ w = omega arith in e) none-below
-  small-below (suc m) w low fits q = elim (member-split D w q) [
-    | inl e ↦ subst (IsAboveEntry t) (sym e) none-below
-    | inr p ↦ elim (cases_eq p.1 0) [
-      | inl none ↦ subst (IsAboveEntry t) (let e : get_or D p.0 0 ≡ w = omega (arith, p.4, none) in e) (f.listed p.0 p.2)
-      | inr some ↦
-          let g = get_or D p.0 0 in
-          let rest : p.1 ≡ w - g = omega (arith, p.4) in
-          sum-below p.1 m w g (λ y l. small-below m y l) (omega arith) fits (place-contains D p.0 p.2) (omega (arith, p.4, some)) (omega (arith, p.4)) (subst (IsMember D) rest p.3)
+    -- each member below the limit, by induction on a bound
+    pub small-below : (m w : ℕ) → w ≤ m → w < L → IsMember D w → IsAboveEntry t w
+    small-below zero w low fits q = subst (IsAboveEntry t) (let e : 0 ≡ w = omega arith in e) none-below
+    small-below (suc m) w low fits q = elim (member-split D w q) [
+      | inl e ↦ subst (IsAboveEntry t) (sym e) none-below
+      | inr p ↦ elim (cases_eq p.1 0) [
+        | inl none ↦ subst (IsAboveEntry t) (let e : get_or D p.0 0 ≡ w = omega (arith, p.4, none) in e) (f.listed p.0 p.2)
+        | inr some ↦
+            let g = get_or D p.0 0 in
+            let rest : p.1 ≡ w - g = omega (arith, p.4) in
+            sum-below p.1 m w g (λ y l. small-below m y l) (omega arith) fits (place-contains D p.0 p.2) (omega (arith, p.4, some)) (omega (arith, p.4)) (subst (IsMember D) rest p.3)
+      ]
     ]
-  ]
 
   -- so the table is the Apery list
   pub settled-table : AreSmall D → length t ≤ MULTIPLICITY_LIMIT → IsTable D t
@@ -118,7 +120,7 @@ module _ (D t s : List ℕ) (S : IsNumericalSemigroup D) (f : AreFound D t s) (h
           let a = get_or apery.0 i 0 in
           let least : a ≤ x = (apery-member D (length t) apery.0 f.not_empty f.modulus apery.1 x).0 q in
           let fits : a < 2 ^ 63 = omega (arith, apery.2 i inside, short) in
-          let low : get_or t (a % length t) 0 ≤ a = small-below a a (omega arith) fits (apery.1.member i inside) in
+          let low : get_or t (a % length t) 0 ≤ a = small-below (2 ^ 63) (λ j l m. found-member D t s f j l (omega (arith, m, short))) a a (omega arith) fits (apery.1.member i inside) in
           omega (arith, low, ap (λ j. get_or t j 0) (apery.1.residue i inside), least)
 
   -- an entry up to the bound that is a sum of a generator and a member above 0 is marked, by the same induction

@@ -112,7 +112,6 @@ module _ (G t s u : List ℕ) (i c g : ℕ) (f : AreFound G t s) (after : 0 < i)
   found-led = record {
     long = length-set s c g ∙ f.long ∙ sym long;
     not_empty = omega (arith, long, f.not_empty);
-    short = omega (arith, long, f.short);
     modulus = subst (IsMember G) (sym long) f.modulus;
     zero = others 0 (λ e. first (sym e)) ∙ f.zero;
     entry = λ k p l. elim (cases_eq k c) [
@@ -318,12 +317,11 @@ settled-now G t s u v b class same more top unmarked whole settled = record {
 }
 
 -- the numbers that lowered entries of a table in which 0 alone was known are found
-pub found-listed : (G t u s : List ℕ) → 0 < length t → length t ≤ 2 ^ 62 → IsMember G (length t) → length s ≡ length t → ((k : ℕ) → k < length s → get_or s k 0 ≡ 0) →
+pub found-listed : (G t u s : List ℕ) → 0 < length t → IsMember G (length t) → length s ≡ length t → ((k : ℕ) → k < length s → get_or s k 0 ≡ 0) →
     ((k : ℕ) → k < length t → get_or t k 0 ≡ 2 ^ 64 - 1) → IsLoweredBy G (set t 0 0) u (length G) → AreFound G u s
-found-listed G t u s some short modulus marks zeros none h = record {
+found-listed G t u s some modulus marks zeros none h = record {
   long = marks ∙ sym long;
   not_empty = omega (arith, long, some);
-  short = omega (arith, long, short);
   modulus = subst (IsMember G) (sym long) modulus;
   zero = omega (arith, get_or-set_same t 0 0 0 some, h.down 0 (omega (arith, same, some)));
   entry = λ i p l. elim (h.entries i (omega (arith, h.long, l))) [

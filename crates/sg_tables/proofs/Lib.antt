@@ -8,5 +8,6 @@ pub mod HalfLemmas
 pub mod KnownLemmas
 pub mod ModulusLemmas
 pub mod PartLemmas
+pub mod SettledLemmas
 pub mod StepLemmas
 pub mod SumLemmas

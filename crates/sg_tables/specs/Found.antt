@@ -1,6 +1,6 @@
 -- What holds of a table while many generators lead from entry to entry. Beside it stands for each class a generator
 -- that leads to its entry from a member above 0, or 0 where none is known.
-use Rattle.std.specs.Prelude.{◌≡◌, ℕ, ◌+◌, ◌-◌, ◌^◌, ◌%◌, ◌<◌, ◌≤◌, ◌⊎◌, List, length, slice_index, Contains}
+use Rattle.std.specs.Prelude.{◌≡◌, ℕ, ◌+◌, ◌-◌, ◌%◌, ◌<◌, ◌≤◌, ◌⊎◌, List, length, slice_index, Contains}
 use Rattle.std.specs.List.Sorted.{IsStrictlyIncreasing}
 use Rattle.sg_defs.specs.Membership.{IsMember, IsNumericalSemigroup}
 use Rattle.sg_classes.specs.Classes.{IsAboveEntry}
@@ -24,7 +24,6 @@ pub record IsSumAt (G t s : List ℕ) (i : ℕ) : Type 0 where
 pub record AreFound (G t s : List ℕ) : Type 0 where
   pub long : length s ≡ length t
   pub not_empty : 0 < length t
-  pub short : length t ≤ 2 ^ 62
   pub modulus : IsMember G (length t)
   pub zero : slice_index t 0 ≡ 0
   pub entry : (i : ℕ) → 0 < i → i < length t → (slice_index t i ≡ UNREACHED) ⊎ (IsListedAt G t s i ⊎ IsSumAt G t s i)

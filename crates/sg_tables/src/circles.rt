@@ -15,14 +15,13 @@ use sg_nat::gcd;
 pub fn next_class(class: usize, step: usize, modulus: usize) -> usize
     requires class { class < modulus }
     requires step { step < modulus }
-    requires short { modulus ≤ 2 ^ 62 }
     ensures { result ≡ (class + step) % modulus }
 {
-    let next = class + step;
-    if next >= modulus {
-        next - modulus
+    let room = modulus - class;
+    if step < room {
+        class + step
     } else {
-        next
+        step - room
     }
 }
 

@@ -20,6 +20,25 @@ use std::alloc::{AllocError, Global};
 /// So many generators are followed round one by one.
 const FEW: usize = 20;
 
+/// Lowers the entries to the sums that the generators lead to, until none is lowered, and marks those that are sums.
+pub fn settle(
+    alloc: Global,
+    table: &mut [u64],
+    summands: &mut [u64],
+    generators: &[u64],
+) -> Result<(), AllocError>
+    requires semigroup { IsNumericalSemigroup generators.now }
+    requires ascending { IsStrictlyIncreasing generators.now }
+    requires found { AreFound generators.now table.old summands.old }
+    ensures found { OnOk result (AreFound generators.now table.new summands.new) }
+    ensures settled { OnOk result (AreSettled generators.now table.new summands.new) }
+{
+    let step = choose_step(generators);
+    let tops = tops_of(alloc, generators, step)?;
+    visit_from(alloc, table, summands, generators, &tops, step)?;
+    close(alloc, table, summands, generators, &tops, step)
+}
+
 /// Makes a table without members the Apery list of ascending generators modulo the least of them, and marks the entries
 /// that are sums of two members above 0.
 fn fill(
@@ -42,10 +61,7 @@ fn fill(
 {
     table[0] = 0;
     lower_all(table, generators);
-    let step = choose_step(generators);
-    let tops = tops_of(alloc, generators, step)?;
-    visit_from(alloc, table, summands, generators, &tops, step)?;
-    close(alloc, table, summands, generators, &tops, step)?;
+    settle(alloc, table, summands, generators)?;
     Ok(())
 }
 

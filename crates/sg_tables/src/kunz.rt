@@ -1,16 +1,21 @@
 //! Kunz's conditions on a list of residue classes, and its minimal generators.
 
-ghost use Rattle.std.specs.Prelude.{◌<◌, ◌≤◌, ◌+◌, ◌%◌, ◌↔◌, length, slice_index, EachIndex, IfOk, IsTrue};
+ghost use Rattle.std.specs.Prelude.{◌≡◌, ◌<◌, ◌≤◌, ◌+◌, ◌%◌, ◌↔◌, length, slice_index, EachIndex, IfOk, IsTrue};
 ghost use Rattle.sg_defs.specs.Membership.{Generates};
 ghost use Rattle.sg_classes.specs.Classes.{IsAboveEntry, IsClassList, IsKunz};
 ghost use Rattle.sg_tables.specs.Closed.{AreClassGenerators, IsClosedUnder};
+ghost use Rattle.sg_tables.specs.Minimal.{IsPartOf};
 ghost use Rattle.sg_tables.specs.Spread.{IsSpread};
 
+use crate::filling::settle;
 use crate::minimal::{minimal_part, needed_part};
 use crate::spread::spread;
 use sg_classes::sort_distinct;
 use sg_nat::Nats;
 use std::alloc::{AllocError, Global};
+
+/// So many generators are added to each entry one by one.
+const FEW: usize = 128;
 
 /// Whether entry 0 is 0, and each entry is congruent to its place.
 fn is_class_list(list: &[u64]) -> bool
@@ -66,7 +71,7 @@ fn is_closed_under(list: &[u64], generator: u64, spread: u64) -> bool
 }
 
 /// Whether the list is closed under each generator.
-pub fn is_closed_under_each(list: &[u64], generators: &[u64]) -> bool
+fn is_closed_under_each(list: &[u64], generators: &[u64]) -> bool
     requires { 0 < length list.now }
     ensures { IsTrue result ↔ EachIndex generators.now (λ k. IsClosedUnder list.now (slice_index generators.now k)) }
 {
@@ -79,7 +84,68 @@ pub fn is_closed_under_each(list: &[u64], generators: &[u64]) -> bool
     true
 }
 
-/// Whether the list meets Kunz's conditions. They are tried at the entries that are no sum of two others.
+/// Whether two lists are the same.
+fn are_same(first: &[u64], second: &[u64]) -> bool
+    ensures { IsTrue result ↔ (first.now ≡ second.now) }
+{
+    first == second
+}
+
+/// Whether no sum of its generators lowers an entry of a list. They are tried on a copy of it.
+fn is_settled(
+    alloc: Global,
+    table: &mut [u64],
+    summands: &mut [u64],
+    generators: &[u64],
+    list: &[u64],
+) -> Result<bool, AllocError>
+    requires classes { IsClassList list.now }
+    requires generators { AreClassGenerators list.now generators.now }
+    requires copy { table.old ≡ list.now }
+    requires long { length summands.old ≡ length list.now }
+    requires unmarked { EachIndex summands.old (λ k. slice_index summands.old k ≡ 0) }
+    ensures { IfOk result (λ settled. IsTrue settled ↔ IsKunz list.now) }
+{
+    settle(alloc, table, summands, generators)?;
+    Ok(are_same(table, list))
+}
+
+/// The same of all generators at once, which are put on a copy of the list.
+fn settles(alloc: Global, list: &[u64], generators: &[u64]) -> Result<bool, AllocError>
+    requires classes { IsClassList list.now }
+    requires generators { AreClassGenerators list.now generators.now }
+    ensures { IfOk result (λ settled. IsTrue settled ↔ IsKunz list.now) }
+{
+    let mut table = Vec::from_slice(alloc, list)?;
+    let mut summands = vec![in alloc; 0; list.len()]?;
+    is_settled(alloc, &mut table, &mut summands, generators, list)
+}
+
+/// Whether the list is closed under the generators that are no sums.
+fn is_closed_by(list: &[u64], generators: &[u64], part: &[u64]) -> bool
+    requires classes { IsClassList list.now }
+    requires generators { AreClassGenerators list.now generators.now }
+    requires part { IsPartOf list.now generators.now part.now (length generators.now) }
+    ensures { IsTrue result ↔ IsKunz list.now }
+{
+    is_closed_under_each(list, part)
+}
+
+/// Whether a list of classes meets Kunz's conditions, which is so where no sum of its entries is below an entry. The few
+/// that are no sums themselves are added to each entry. Where they are many, a pass that leaves out most sums is shorter.
+fn is_kunz_by(alloc: Global, list: &[u64], generators: &[u64]) -> Result<bool, AllocError>
+    requires classes { IsClassList list.now }
+    requires generators { AreClassGenerators list.now generators.now }
+    ensures { IfOk result (λ holds. IsTrue holds ↔ IsKunz list.now) }
+{
+    let part = needed_part(alloc, list, generators)?;
+    if part.len() <= FEW {
+        return Ok(is_closed_by(list, generators, part.as_slice()));
+    }
+    settles(alloc, list, generators)
+}
+
+/// Whether the list meets Kunz's conditions.
 pub fn is_kunz(alloc: Global, list: &[u64]) -> Result<bool, AllocError>
     ensures { IfOk result (λ holds. IsTrue holds ↔ IsKunz list.now) }
 {
@@ -87,8 +153,7 @@ pub fn is_kunz(alloc: Global, list: &[u64]) -> Result<bool, AllocError>
         return Ok(false);
     }
     let entries = class_generators(alloc, list)?;
-    let part = needed_part(alloc, list, &entries)?;
-    Ok(is_closed_under_each(list, part.as_slice()))
+    is_kunz_by(alloc, list, &entries)
 }
 
 /// The minimal generators of the semigroup of the numbers above their entries.

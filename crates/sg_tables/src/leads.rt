@@ -4,7 +4,7 @@
 //! is known. So each entry is a generator that no sum is known to make, or a sum; and a greater generator that leads to
 //! the same entry makes it needless to try a lesser one from there.
 
-ghost use Rattle.std.specs.Prelude.{◌≡◌, ◌+◌, ◌^◌, ◌<◌, ◌≤◌, ℕ, List, length, sum, slice_index, Contains, EachIndex, IsTrue, IsFalse, IsSome, IsNone, IfOk, OnOk};
+ghost use Rattle.std.specs.Prelude.{◌≡◌, ◌+◌, ◌<◌, ◌≤◌, ℕ, List, length, sum, slice_index, Contains, EachIndex, IsTrue, IsFalse, IsSome, IsNone, IfOk, OnOk};
 ghost use Rattle.std.specs.BinaryHeap.{heap_len};
 ghost use Rattle.std.specs.List.Sorted.{IsStrictlyIncreasing};
 ghost use Rattle.sg_tables.specs.Found.{AreFound, IsMarkedMore, IsTold};
@@ -27,7 +27,6 @@ pub struct Led {
 pub fn lead(table: &mut [u64], summands: &mut [u64], generator: u64, from: usize) -> Option<u64>
     requires after { 0 < from }
     requires from { from < length table.old }
-    requires short { length table.old ≤ 2 ^ 62 }
     requires long { length summands.old ≡ length table.old }
     requires positive { 0 < generator }
     ensures found { (G : List ℕ) → Contains G generator → AreFound G table.old summands.old → AreFound G table.new summands.new }
@@ -64,7 +63,6 @@ fn lead_and_queue(
 ) -> Result<bool, AllocError>
     requires after { 0 < from }
     requires from { from < length table.old }
-    requires short { length table.old ≤ 2 ^ 62 }
     requires long { length summands.old ≡ length table.old }
     requires positive { 0 < generator }
     ensures found { OnOk result ((G : List ℕ) → Contains G generator → AreFound G table.old summands.old → AreFound G table.new summands.new) }
@@ -93,7 +91,6 @@ pub fn lead_between(
 ) -> Result<Led, AllocError>
     requires after { 0 < from }
     requires from { from < length table.old }
-    requires short { length table.old ≤ 2 ^ 62 }
     requires long { length summands.old ≡ length table.old }
     requires ascending { IsStrictlyIncreasing list.now }
     requires positive { EachIndex list.now (λ k. 0 < slice_index list.now k) }

@@ -16,8 +16,6 @@ pub mod laws;
 mod limits;
 mod nearest;
 mod needed;
-#[cfg(test)]
-mod tests;
 
 pub use answer::TameAnswer;
 pub use degree::tame;

@@ -10,8 +10,6 @@ mod number;
 mod quoted;
 mod run;
 mod symbol;
-#[cfg(test)]
-mod tests;
 mod token;
 mod tokens;
 mod word;

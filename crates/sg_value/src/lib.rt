@@ -17,8 +17,6 @@ mod limits;
 mod names;
 mod print;
 mod size;
-#[cfg(test)]
-mod tests;
 mod text;
 mod value;
 

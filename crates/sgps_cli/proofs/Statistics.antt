@@ -3,13 +3,13 @@ use Rattle.std.proofs.Common.{◌≡◌, ℕ, List, [], ◌∷◌, Bool, true, f
 use Rattle.std.specs.Prelude.{◌++◌, ◌&&◌, None, Some, if◌then◌else◌}
 use Rattle.sg_memo.specs.Lru.{in_turn, empty, after_asks}
 use Rattle.sg_memo.proofs.InTurn.{in_turn-empty}
-use Rattle.sg_rows.specs.Asks.{Asking, Attribute, apery_table, pseudo_frobenius, presentation}
+use Rattle.sg_rows.specs.Asks.{Asking, Attribute, apery_table, pseudo_frobenius, presentation, tame_degree}
 use Rattle.sg_calls.specs.After.{after_one, after_asked}
 use Rattle.sg_store.specs.Attributes.{Attributes, nothing_asked, AreCounts}
 use Rattle.sg_store.specs.declared.attributes.Counts.{Counts}
 use Rattle.sg_words.specs.Settings.{Wanted}
 use Rattle.sgps_cli.specs.Causes.{last_line}
-use Rattle.sgps_cli.specs.Statistics.{table_before, numbers_before, presentation_before, tables_asked, numbers_asked, presentations_asked, attributes_after, counts_lines, counts_of, lines_of, tells_counts, last_lines, lines_with}
+use Rattle.sgps_cli.specs.Statistics.{table_before, numbers_before, presentation_before, tame_before, tables_asked, numbers_asked, presentations_asked, tames_asked, attributes_after, counts_lines, counts_of, lines_of, tells_counts, last_lines, lines_with}
 use Rattle.sgps_cli.specs.declared.ending.Cause.{Cause}
 
 -- the memos after these asks
@@ -18,6 +18,7 @@ each_after asked a = record {
   tables = in_turn (tables_asked asked) a.tables;
   pseudo = in_turn (numbers_asked asked) a.pseudo;
   presentations = in_turn (presentations_asked asked) a.presentations;
+  tames = in_turn (tames_asked asked) a.tames;
 }
 
 -- one ask, and then others
@@ -26,10 +27,12 @@ one-first : (x : Attribute) (G : List ℕ) (asked : List Asking) (a : Attributes
       tables = in_turn (table_before x G (tables_asked asked)) a.tables;
       pseudo = in_turn (numbers_before x G (numbers_asked asked)) a.pseudo;
       presentations = in_turn (presentation_before x G (presentations_asked asked)) a.presentations;
+      tames = in_turn (tame_before x G (tames_asked asked)) a.tames;
     }
 one-first apery_table G asked a = refl
 one-first pseudo_frobenius G asked a = refl
 one-first presentation G asked a = refl
+one-first tame_degree G asked a = refl
 
 -- asks in turn are asks of each memo in turn
 each-in-turn : (asked : List Asking) (a : Attributes) → after_asked asked a ≡ each_after asked a
@@ -39,22 +42,33 @@ each-in-turn (x ∷ asked) a = each-in-turn asked (after_one x.0 x.1 a) ∙ one-
 -- what is kept from the beginning is what the plain list of asks comes to
 pub kept-is : (capacity : ℕ) (asked : List Asking) → after_asked asked (nothing_asked capacity) ≡ attributes_after capacity asked
 kept-is capacity asked =
+    let none = empty capacity in
+    let table = after_asks capacity (tables_asked asked) in
+    let numbers = after_asks capacity (numbers_asked asked) in
+    let late = in_turn (tames_asked asked) none in
     each-in-turn asked (nothing_asked capacity)
-    ∙ (ap₂ (λ t p. record { tables = t; pseudo = p; presentations = in_turn (presentations_asked asked) (empty capacity) }) (in_turn-empty capacity (tables_asked asked)) (in_turn-empty capacity (numbers_asked asked))
-    ∙ ap (λ r. record { tables = after_asks capacity (tables_asked asked); pseudo = after_asks capacity (numbers_asked asked); presentations = r }) (in_turn-empty capacity (presentations_asked asked)))
+    ∙ (ap₂ (λ t p. record { tables = t; pseudo = p; presentations = in_turn (presentations_asked asked) none; tames = late }) (in_turn-empty capacity (tables_asked asked)) (in_turn-empty capacity (numbers_asked asked))
+    ∙ ap₂ (λ r d. record { tables = table; pseudo = numbers; presentations = r; tames = d }) (in_turn-empty capacity (presentations_asked asked)) (in_turn-empty capacity (tames_asked asked)))
 
 -- the numbers that were counted are told as they are kept
-abbrev counts_with : ℕ → ℕ → ℕ → ℕ → ℕ → ℕ → Counts
-counts_with t u p q r s = record { tables_asked = t; tables_made = u; pseudo_asked = p; pseudo_made = q; presentations_asked = r; presentations_made = s }
+abbrev counts_with : ℕ → ℕ → ℕ → ℕ → ℕ → ℕ → ℕ → ℕ → Counts
+counts_with t u p q r s d e = record {
+  tables_asked = t;
+  tables_made = u;
+  pseudo_asked = p;
+  pseudo_made = q;
+  presentations_asked = r;
+  presentations_made = s;
+  tames_asked = d;
+  tames_made = e;
+}
 
 counted-is : (a : Attributes) (n : Counts) → AreCounts a n → n ≡ counts_of a
 counted-is a n h =
-    ap (λ x. counts_with x n.tables_made n.pseudo_asked n.pseudo_made n.presentations_asked n.presentations_made) h.tables_asked
-    ∙ ap (λ x. counts_with a.tables.asked x n.pseudo_asked n.pseudo_made n.presentations_asked n.presentations_made) h.tables_made
-    ∙ ap (λ x. counts_with a.tables.asked a.tables.made x n.pseudo_made n.presentations_asked n.presentations_made) h.pseudo_asked
-    ∙ ap (λ x. counts_with a.tables.asked a.tables.made a.pseudo.asked x n.presentations_asked n.presentations_made) h.pseudo_made
-    ∙ ap (λ x. counts_with a.tables.asked a.tables.made a.pseudo.asked a.pseudo.made x n.presentations_made) h.presentations_asked
-    ∙ ap (λ x. counts_with a.tables.asked a.tables.made a.pseudo.asked a.pseudo.made a.presentations.asked x) h.presentations_made
+    ap₂ (λ x y. counts_with x y n.pseudo_asked n.pseudo_made n.presentations_asked n.presentations_made n.tames_asked n.tames_made) h.tables_asked h.tables_made
+    ∙ (ap₂ (λ x y. counts_with a.tables.asked a.tables.made x y n.presentations_asked n.presentations_made n.tames_asked n.tames_made) h.pseudo_asked h.pseudo_made
+    ∙ (ap₂ (λ x y. counts_with a.tables.asked a.tables.made a.pseudo.asked a.pseudo.made x y n.tames_asked n.tames_made) h.presentations_asked h.presentations_made
+    ∙ ap₂ (λ x y. counts_with a.tables.asked a.tables.made a.pseudo.asked a.pseudo.made a.presentations.asked a.presentations.made x y) h.tames_asked h.tames_made))
 
 counted-lines : (a : Attributes) (n : Counts) → AreCounts a n → counts_lines n ≡ lines_of a
 counted-lines a n h = ap counts_lines (counted-is a n h)

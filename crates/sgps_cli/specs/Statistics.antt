@@ -1,7 +1,7 @@
 -- What is told of the attributes that were asked for.
 use Rattle.std.specs.Prelude.{ℕ, List, [], ◌∷◌, ◌++◌, ◌&&◌, Bool, true, false, Option, Some, None, codes, decimal, if◌then◌else◌}
 use Rattle.sg_memo.specs.Lru.{after_asks}
-use Rattle.sg_rows.specs.Asks.{Asking, Attribute, apery_table, pseudo_frobenius, presentation}
+use Rattle.sg_rows.specs.Asks.{Asking, Attribute, apery_table, pseudo_frobenius, presentation, tame_degree}
 use Rattle.sg_store.specs.Attributes.{Attributes}
 use Rattle.sg_store.specs.declared.attributes.Counts.{Counts}
 use Rattle.sg_words.specs.Settings.{Wanted}
@@ -24,6 +24,11 @@ abbrev pub presentation_before : Attribute → List ℕ → List (List ℕ) → 
 presentation_before presentation G others = G ∷ others
 presentation_before _ G others = others
 
+-- the same of its tame degree
+abbrev pub tame_before : Attribute → List ℕ → List (List ℕ) → List (List ℕ)
+tame_before tame_degree G others = G ∷ others
+tame_before _ G others = others
+
 -- the semigroups whose table was asked for, in turn
 abbrev pub tables_asked : List Asking → List (List ℕ)
 tables_asked [] = []
@@ -39,6 +44,11 @@ abbrev pub presentations_asked : List Asking → List (List ℕ)
 presentations_asked [] = []
 presentations_asked (x ∷ asked) = presentation_before x.0 x.1 (presentations_asked asked)
 
+-- the semigroups whose tame degree was asked for, in turn
+abbrev pub tames_asked : List Asking → List (List ℕ)
+tames_asked [] = []
+tames_asked (x ∷ asked) = tame_before x.0 x.1 (tames_asked asked)
+
 -- what memos with room for so many come to after these asks: how often each attribute was asked for, and how often it was
 -- not among the last ones
 abbrev pub attributes_after : ℕ → List Asking → Attributes
@@ -46,13 +56,14 @@ attributes_after capacity asked = record {
   tables = after_asks capacity (tables_asked asked);
   pseudo = after_asks capacity (numbers_asked asked);
   presentations = after_asks capacity (presentations_asked asked);
+  tames = after_asks capacity (tames_asked asked);
 }
 
 -- how often an attribute was asked for and made, as it is printed
 abbrev pub counts_line : List ℕ → ℕ → ℕ → List ℕ
 counts_line name asked made = name ++ (codes " asked " ++ (decimal asked ++ (codes " made " ++ (decimal made ++ codes "\n"))))
 
--- the same of all attributes
+-- the same of all attributes but the tame degree, which no line tells
 abbrev pub counts_lines : Counts → List ℕ
 counts_lines n =
     counts_line (codes "table") n.tables_asked n.tables_made ++ (counts_line (codes "pseudo") n.pseudo_asked n.pseudo_made ++ counts_line (codes "presentation") n.presentations_asked n.presentations_made)
@@ -66,6 +77,8 @@ counts_of a = record {
   pseudo_made = a.pseudo.made;
   presentations_asked = a.presentations.asked;
   presentations_made = a.presentations.made;
+  tames_asked = a.tames.asked;
+  tames_made = a.tames.made;
 }
 
 -- the lines of what is kept

@@ -97,6 +97,8 @@ pub fn unplayed() -> Finish
             pseudo_made: 0,
             presentations_asked: 0,
             presentations_made: 0,
+            tames_asked: 0,
+            tames_made: 0,
         },
     }
 }

@@ -2,6 +2,7 @@
 
 ghost use Rattle.std.specs.Prelude.{◌<◌};
 
+mod counting;
 mod drill;
 mod endless;
 mod faults;

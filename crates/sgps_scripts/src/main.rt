@@ -2,9 +2,9 @@
 //!
 //! Rows are parted by an empty line. A row as it stands is a script. Its comments `#> ` have what it prints, and its
 //! comments `#! ` the lines that it writes to standard error. To the byte: printed are the texts behind `#> `, joined by
-//! line feeds, so that a text which ends in a line feed has a last line `#>` with nothing behind. The status is 1
-//! where the first line behind `#! ` is that of a fault, and else 0. A comment `#$ ` has the words of the command, parted
-//! by blanks. A row that is one line `# ` is a heading, and is not run.
+//! line feeds, so that a text which ends in a line feed has a last line `#>` with nothing behind. The status is 2 where
+//! the line behind `#! ` is `sgps: usage`, 1 where the first one is that of a fault, and else 0. A comment `#$ ` has the
+//! words of the command, parted by blanks. A row that is one line `# ` is a heading, and is not run.
 //!
 //! Each script is read in pieces of 1 byte and in pieces of 4,096 bytes.
 #![tactic(auto)]
@@ -69,7 +69,11 @@ fn ends_as_told(rt: &(impl AllocGlobal + Print), line: usize, row: &str) -> io::
 fn told(alloc: Global, row: &str) -> Result<Outcome, AllocError> {
     let out = behind(alloc, row, "#>")?;
     let mut err = behind(alloc, row, "#!")?;
-    let status = u8::from(err.starts_with(b"sgps: "));
+    let status = if err.starts_with(b"sgps: usage") {
+        2
+    } else {
+        u8::from(err.starts_with(b"sgps: "))
+    };
     if !err.is_empty() {
         err.push(b'\n')?;
     }

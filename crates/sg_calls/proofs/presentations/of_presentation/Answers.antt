@@ -6,8 +6,9 @@ use Rattle.sg_store.specs.Held.{list_at}
 use Rattle.sg_rows.specs.Asks.{Asking, apery_table, asked_of}
 use Rattle.sg_rows.specs.Kinds.{as_semigroup, one}
 use Rattle.sg_rows.specs.Made.{Tells}
-use Rattle.sg_rows.specs.Order.{Passes, Refuses}
+use Rattle.sg_rows.specs.Order.{Bars, Passes}
 use Rattle.sg_rows.specs.declared.fault.CallFault.TheVariants.{Script}
+use Rattle.sg_rows.proofs.AskLemmas.{admitted}
 use Rattle.sg_rows_presentations.specs.Rows.{presentation_row}
 use Rattle.sg_rows_presentations.proofs.Telling.{late-is}
 use Rattle.sg_calls.specs.After.{after_asked}
@@ -30,7 +31,7 @@ returns-in-Err-clause-asks c =
     let at = c.in_ok-table.ensures.table in
     let found = semigroup-some ids args c.in-Some.id G (sym c.one_semigroup.ensures ∙ c.in-Some.is) at in
     asks_refused (one as_semigroup (plain_of_all (named ids) args)) table_first row (Err (Script c.in-Err.fault)) old c.table.new.self.attributes G found
-    (subst (λ H. Refuses (row H)) c.deref.ensures c.in-Err.ensures.0) (c.in_ok-table.ensures.ok ∙ ap (λ o. table_answered (unwrap_or o []) old) at)
+    (subst (λ H. Bars (row H)) c.deref.ensures c.in-Err.ensures.0) (c.in_ok-table.ensures.ok ∙ ap (λ o. table_answered (unwrap_or o []) old) at)
 
 pub returns-clause-reply : goal.returns-clause-reply
 returns-clause-reply c =
@@ -57,5 +58,5 @@ returns-clause-asks c =
     let here : presentation_answered (list_at c.table.new.self.ids.semigroups id) then ≡ presentation_answered G then =
     ap (λ (s : Known). presentation_answered (list_at s.semigroups id) then) c.table.ensures.ids ∙ ap (λ o. presentation_answered (unwrap_or o []) then) at in
     asks_passed (one as_semigroup (plain_of_all (named ids) args)) table_first row c.deliver.result old c.presentation.new.self.attributes G found
-    (subst (λ H. Passes (row H)) c.deref.ensures c.in_default-check.ensures)
+    (admitted (row G) (subst (λ H. Passes (row H)) c.deref.ensures c.in_default-check.ensures))
     (c.in_ok-relations.ensures.ok ∙ (here ∙ (ap (presentation_answered G) first ∙ sym (ap (λ l. after_asked (table_first G ++ l) old) (late-is c.args.fact G)))))

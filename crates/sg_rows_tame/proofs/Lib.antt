@@ -1,0 +1,4 @@
+pub mod Deciding
+pub mod Telling
+pub mod OneCommand
+pub mod SomeCommand
