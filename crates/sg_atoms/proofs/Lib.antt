@@ -1,0 +1,14 @@
+pub mod IntegerLemmas
+pub mod ImageLemmas
+pub mod BelowLemmas
+pub mod GrownLemmas
+pub mod AtomLemmas
+pub mod LevelLemmas
+pub mod ProductLemmas
+pub mod MachineLemmas
+pub mod SetLemmas
+pub mod GrowthLemmas
+pub mod FaultLemmas
+pub mod ReachLemmas
+pub mod UnitLemmas
+pub mod AscendingLemmas

@@ -1,0 +1,15 @@
+pub mod SumLemmas
+pub mod PartLemmas
+pub mod PairLemmas
+pub mod SubsetLemmas
+pub mod ListingLemmas
+pub mod ReachLemmas
+pub mod GlueLemmas
+pub mod GluingsExist
+pub mod TurnLemmas
+pub mod SpreadLemmas
+pub mod AcrossLemmas
+pub mod WovenLemmas
+pub mod PlacedLemmas
+pub mod GluedLemmas
+pub mod SideLemmas

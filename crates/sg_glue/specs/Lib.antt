@@ -1,0 +1,5 @@
+pub mod Gluings
+pub mod Limits
+pub mod Sums
+pub mod Complete
+pub mod Glued
