@@ -2,22 +2,25 @@
 //! with the status that the run has.
 #![tactic(auto)]
 
-use sg_io::{StdSink, StdSource};
+use sg_io::{StdSink, StdSource, write_whole};
 use sgps_cli::run;
 use std::env;
 use std::io::ErrorKind;
 use std::process::ExitCode;
 
-/// The status where memory for the words is refused.
+/// The status where memory for the words is refused, and the line that tells it, as `run` has them.
 const NO_MEMORY: u8 = 5;
 
+const NO_MEMORY_LINE: &[u8] = b"sgps: no memory\n";
+
 fn main(rt: HostRuntime) -> ExitCode {
+    let mut err = StdSink::err(&rt);
     let Some(words) = words(&rt) else {
+        let _ = write_whole(&mut err, NO_MEMORY_LINE);
         return ExitCode::from(NO_MEMORY);
     };
     let mut source = StdSource::new(&rt);
     let mut out = StdSink::out(&rt);
-    let mut err = StdSink::err(&rt);
     let ending = run(rt.alloc(), &words, &mut source, &mut out, &mut err);
     ExitCode::from(ending.status)
 }
