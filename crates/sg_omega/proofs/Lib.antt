@@ -4,3 +4,4 @@ pub mod LengthLemmas
 pub mod ReadingLemmas
 pub mod PrimalityLemmas
 pub mod PartLemmas
+pub mod BoundLemmas

@@ -8,7 +8,7 @@ use sg_apery::Table;
 use std::alloc::{AllocError, Global};
 
 /// The members up to a number.
-pub fn members_upto(alloc: Global, t: &Table, last: u64) -> Result<Vec<u64>, AllocError>
+fn members_upto(alloc: Global, t: &Table, last: u64) -> Result<Vec<u64>, AllocError>
     requires { last < 2 ^ 32 }
     ensures { IfOk result (λ members. (v : ℕ) → Contains members.items v ↔ ((v ≤ last) × IsMember t.now v)) }
 {
@@ -22,7 +22,7 @@ pub fn members_upto(alloc: Global, t: &Table, last: u64) -> Result<Vec<u64>, All
 }
 
 /// Whether a number is a member once the generator is taken away.
-fn is_lowered(t: &Table, v: u64, generator: u64) -> bool
+pub fn is_lowered(t: &Table, v: u64, generator: u64) -> bool
     ensures { IsTrue result ↔ IsLowered t.now v generator }
 {
     if v < generator {
@@ -62,4 +62,17 @@ pub fn divided(
         }
     }
     Ok(parts)
+}
+
+/// The members up to a number, those that lie in the Apery set of the least generator behind the others: above them are
+/// the longest vectors.
+pub fn ordered_upto(alloc: Global, t: &Table, last: u64) -> Result<Vec<u64>, AllocError>
+    requires { last < 2 ^ 32 }
+    ensures { IfOk result (λ members. (v : ℕ) → Contains members.items v ↔ ((v ≤ last) × IsMember t.now v)) }
+{
+    let members = members_upto(alloc, t, last)?;
+    let Parts { inside, outside } = divided(alloc, t, &members, t.multiplicity())?;
+    let mut ordered = outside;
+    ordered.extend_from_slice(&inside)?;
+    Ok(ordered)
 }

@@ -8,8 +8,8 @@ ghost use Rattle.sg_omega.specs.Limits.{IsWithinLimit};
 ghost use Rattle.sg_omega.specs.Minimal.{IsGreatestOfAll};
 
 use crate::lengths::start_table;
-use crate::parts::members_upto;
-use crate::walk::walk;
+use crate::parts::ordered_upto;
+use crate::rounds::greatest_reading;
 use sg_apery::Table;
 use std::alloc::{AllocError, Global};
 
@@ -26,11 +26,10 @@ fn greatest_minimal_length(
     requires small { IsWithinLimit t.now most }
     ensures { IfOk result (IsGreatestOfAll t.now wanted.now) }
 {
-    let places = t.generators().len();
     let last = t.span() - t.multiplicity();
-    let values = members_upto(alloc, t, last)?;
+    let values = ordered_upto(alloc, t, last)?;
     let table = start_table(alloc, most + last)?;
-    let found = walk(alloc, t, wanted, &table, places, values)?;
+    let found = greatest_reading(alloc, t, wanted, most, &table, &values)?;
     Ok(u64::from(found) - 1)
 }
 
