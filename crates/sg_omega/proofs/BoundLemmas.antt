@@ -7,7 +7,8 @@ use Rattle.std.proofs.lemmas.List.{take_all, take_more, take-append-drop, drop-d
 use Rattle.std.proofs.lemmas.List.Elements.{Contains-append_left, Contains-append_right, Contains-append_cases, Contains-push, Contains-push_cases}
 use Rattle.std.proofs.lemmas.List.Kept.{AllPairs-from_increasing}
 use Rattle.std.proofs.lemmas.List.Sums.{sum_by-cons}
-use Rattle.std.proofs.Math.Nat.{mul-le-mul_left}
+use Rattle.std.proofs.lemmas.Nat.{le-div}
+use Rattle.std.proofs.Math.Nat.{mul-le-mul_left, mul_comm}
 use Rattle.sg_defs.specs.Vectors.{value_of}
 use Rattle.sg_laws_finite.proofs.ElementLemmas.{contains-nil}
 use Rattle.sg_nonunique.proofs.PlaceLemmas.{inside}
@@ -44,7 +45,7 @@ short-from_place G most v i g up here is positive low n z few m =
     divided (sum z) (most + v) g positive (omega (arith, value-at_least G z g m.places used, m.value))
   where
     divided : (a b g : ℕ) → 0 < g → g * a ≤ b → a < b / g + 1
-    divided a b g positive le = omega (arith, le)
+    divided a b g positive le = let most_times = le-div a b g positive (subst (λ n. n ≤ b) (mul_comm g a) le) in omega (arith, most_times)
 
 -- v lies outside all Apery sets, so the vector is zero
 pub short-outside : (G : List ℕ) (most v i : ℕ) → length G ≤ i → ((j : ℕ) → j < i → IsLowered G v (get_or G j 0)) → IsTooShort G most v 1

@@ -26,10 +26,11 @@ fn greatest_minimal_length(
     requires small { IsWithinLimit t.now most }
     ensures { IfOk result (IsGreatestOfAll t.now wanted.now) }
 {
+    let places = t.generators().len();
     let last = t.span() - t.multiplicity();
     let values = ordered_upto(alloc, t, last)?;
     let table = start_table(alloc, most + last)?;
-    let found = greatest_reading(alloc, t, wanted, most, &table, &values)?;
+    let found = greatest_reading(alloc, t, wanted, most, &table, places, &values)?;
     Ok(u64::from(found) - 1)
 }
 

@@ -1,6 +1,6 @@
 //! The values a few at a time, and only while they can give more than what is found.
 
-ghost use Rattle.std.specs.Prelude.{◌+◌, ◌<◌, ◌≤◌, ◌^◌, ℕ, length, All, Contains, EachIndex, IfOk, slice_index};
+ghost use Rattle.std.specs.Prelude.{◌≡◌, ◌+◌, ◌<◌, ◌≤◌, ◌^◌, ℕ, length, All, Contains, EachIndex, IfOk, slice_index};
 ghost use Rattle.sg_omega.specs.Lengths.{AreGreatestMade};
 ghost use Rattle.sg_omega.specs.Readings.{IsGreatestReading};
 
@@ -23,8 +23,10 @@ pub fn greatest_reading(
     wanted: &[u64],
     most: u64,
     table: &[u32],
+    places: usize,
     values: &[u64],
 ) -> Result<u32, AllocError>
+    requires places { places ≡ length t.now }
     requires most { All (λ n. n ≤ most) wanted.now }
     requires short { length table.now < 2 ^ 31 }
     requires bounded { EachIndex table.now (λ x. slice_index table.now x ≤ x + 1) }
@@ -32,7 +34,6 @@ pub fn greatest_reading(
     requires lengths { (v : ℕ) → Contains values.now v → AreGreatestMade t.now v (length t.now) table.now }
     ensures { IfOk result (IsGreatestReading t.now wanted.now values.now) }
 {
-    let places = t.generators().len();
     let mut best = 0u32;
     let mut end = values.len();
     while end > 0 {

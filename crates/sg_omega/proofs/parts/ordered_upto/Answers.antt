@@ -12,7 +12,7 @@ returns c v =
     let last = c.in_ok-inside.field-0.outside.items in
     let same = c.deref.ensures.value in
     let both = ordered-same G c.deref.result.now first last c.multiplicity.result c.in_ok-inside.ensures.inside c.in_ok-inside.ensures.outside v in
-    let is : c.in_ok-extend_from_slice.ordered.items ≡ last ++ first = c.in_ok-extend_from_slice.ensures.items ∙ ap (λ xs. last ++ xs) c.deref-2.ensures.value in (
+    let is : c.extend_from_slice.new.self.items ≡ last ++ first = c.in_ok-extend_from_slice.ensures.items ∙ ap (λ xs. last ++ xs) c.deref-2.ensures.value in (
       (λ there. (c.in_ok-members.ensures v).0 (subst (λ xs. Contains xs v) same (both.0 (subst (λ xs. Contains xs v) is there)))),
       (λ r. subst (λ xs. Contains xs v) (sym is) (both.1 (subst (λ xs. Contains xs v) (sym same) ((c.in_ok-members.ensures v).1 r)))),
     )

@@ -48,3 +48,6 @@ returns c =
     let r = greatest-found G c.generators.ensures.semigroup c.generators.ensures.minimal c.span.result c.multiplicity.result c.span.ensures c.multiplicity.ensures.first
     c.args.wanted.now c.in_ok-values.values.items c.in_ok-found.found c.in_ok-values.ensures reading c.requires.some c.requires.members in
     subst (λ n. IsGreatestOfAll G c.args.wanted.now (n - 1)) (sym c.from.ensures) r.1
+
+pub greatest_reading-requires-clause-places : goal.greatest_reading-requires-clause-places
+greatest_reading-requires-clause-places c = c.len-places.ensures ∙ ap length c.generators.ensures.same

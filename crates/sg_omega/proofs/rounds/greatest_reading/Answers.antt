@@ -8,11 +8,6 @@ use Rattle.sg_omega.proofs.BoundLemmas.{contains-part, reading-round}
 use Rattle.sg_omega.proofs.ReadingLemmas.{reading-none}
 use Rattle.sg_omega.proofs.rounds.greatest_reading.Goals as goal
 
-pub loop-end-init : goal.loop-end-init
-loop-end-init c =
-    let xs = c.args.values.now in
-    record { inside = omega arith; reading = reading-none c.args.t.now c.args.wanted.now (drop (length xs) xs) (drop_all (length xs) xs (omega arith)) }
-
 pub promising-requires : goal.promising-requires
 promising-requires c =
     let xs = c.args.values.now in
@@ -21,7 +16,7 @@ promising-requires c =
     (λ v there. omega (arith, c.requires.short, c.requires.inside v (contains-part xs (c.loop-end.end - i) i v there)))
 
 pub walk-requires-clause-place : goal.walk-requires-clause-place
-walk-requires-clause-place c = omega (arith, c.len-places.ensures, ap length c.generators.ensures.same)
+walk-requires-clause-place c = omega (arith, c.requires.places)
 
 pub walk-requires-clause-inside : goal.walk-requires-clause-inside
 walk-requires-clause-inside c n v wanted there =
@@ -36,8 +31,7 @@ walk-requires-clause-lengths c v there =
     let xs = c.args.values.now in
     let i = c.saturating_sub-begin.result in
     let listed = contains-part xs (c.loop-end.end - i) i v (c.in_ok-chosen.ensures.within v there) in
-    let all : c.len-places.result ≡ length G = c.len-places.ensures ∙ ap length c.generators.ensures.same in
-    subst (λ k. AreGreatestMade G v k c.args.table.now) (sym all) (c.requires.lengths v listed)
+    subst (λ k. AreGreatestMade G v k c.args.table.now) (sym c.requires.places) (c.requires.lengths v listed)
 
 pub loop-end-preserved : goal.loop-end-preserved
 loop-end-preserved c =
@@ -50,7 +44,7 @@ loop-end-preserved c =
     record {
       inside = omega (arith, order, c.loop-end.invariant.inside);
       reading = subst (IsGreatestReading G wanted (drop i xs)) (sym c.max-best.ensures)
-          (reading-round G wanted xs c.in_ok-chosen.chosen.items c.args.most i j c.in_ok-walk.result c.loop-end.best (λ n w. omega (arith, c.requires.most w.0 n w.1, w.2)) order c.in_ok-chosen.ensures c.in_ok-walk.ensures c.loop-end.invariant.reading);
+          (reading-round G wanted xs c.in_ok-chosen.chosen.items c.args.most i j c.in_ok-walk.field-0 c.loop-end.best (λ n w. omega (arith, c.requires.most w.0 n w.1, w.2)) order c.in_ok-chosen.ensures c.in_ok-walk.ensures c.loop-end.invariant.reading);
     }
 
 pub returns : goal.returns
