@@ -86,7 +86,7 @@ promising-skip G xs most c i kept l short h = subst (λ ys. ArePromising G ys mo
 })
 
 pub promising-all : (G xs : List ℕ) (most c i : ℕ) (kept : List ℕ) → length xs ≤ i → ArePromising G (take i xs) most c kept → ArePromising G xs most c kept
-promising-all G xs most c i kept far h = subst (λ ys. ArePromising G ys most c kept) (take_all xs i far) h
+promising-all G xs most c i kept far h = subst (λ ys. ArePromising G ys most c kept) (take_all i xs far) h
 
 -- ---- a round more
 
@@ -128,7 +128,7 @@ reading-round G wanted xs kept most i j a b few order h p q l = (
 pub contains-part : (xs : List ℕ) (k i v : ℕ) → Contains (take k (drop i xs)) v → Contains xs v
 contains-part xs k i v there =
     subst (λ ys. Contains ys v) (take-append-drop i xs) (Contains-append_right (take i xs) (drop i xs) v
-      (subst (λ ys. Contains ys v) (take-append-drop k (drop i xs)) (Contains-append_left (take k (drop i xs)) (drop k (drop i xs)) v there)))
+    (subst (λ ys. Contains ys v) (take-append-drop k (drop i xs)) (Contains-append_left (take k (drop i xs)) (drop k (drop i xs)) v there)))
 
 -- ---- the order of the values
 
