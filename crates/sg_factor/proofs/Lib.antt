@@ -8,8 +8,11 @@ pub mod GreedyLemmas
 pub mod IntegerLemmas
 pub mod LengthLemmas
 pub mod NoteLemmas
+pub mod OrderedLemmas
 pub mod PlaceLemmas
 pub mod ReachLemmas
 pub mod ReachSteps
 pub mod RefusalLemmas
+pub mod SkipLemmas
 pub mod StepLemmas
+pub mod TurnLemmas

@@ -1,7 +1,7 @@
 -- Vectors that begin alike and go on with the factorizations of a number.
-use Rattle.std.proofs.Common.{◌≡◌, ℕ, suc, ◌+◌, ◌-◌, ◌*◌, ◌/◌, ◌%◌, ◌<◌, ◌≤◌, List, [], ◌∷◌, ◌++◌, length, get_or, take, drop, set, map, refl, sym, ap, subst, ◌∙◌, inl, inr, arith}
+use Rattle.std.proofs.Common.{◌≡◌, ℕ, zero, suc, ◌+◌, ◌-◌, ◌*◌, ◌/◌, ◌%◌, ◌<◌, ◌≤◌, List, [], ◌∷◌, ◌++◌, length, get_or, take, drop, set, map, reverse, refl, sym, ap, subst, ◌∙◌, inl, inr, arith}
 use Rattle.std.specs.Prelude.{All, Contains}
-use Rattle.std.proofs.lemmas.List.{append_assoc, append-nil, length-append, length-map, map-append, take_rest, take_all, length-set, length-drop, take-set-le, take-take}
+use Rattle.std.proofs.lemmas.List.{append_assoc, append-nil, length-append, length-map, length-reverse, map-append, reverse-append, take_rest, take_all, length-set, length-drop, take-set-le, take-take}
 use Rattle.std.proofs.lemmas.Simd.{map-map}
 use Rattle.std.proofs.lemmas.List.Elements.{All-drop, All-nil}
 use Rattle.std.proofs.lemmas.List.Kept.{AllPairs-cons}
@@ -9,13 +9,15 @@ use Rattle.std.proofs.Math.Seq.{take-suc-set}
 use Rattle.std.proofs.Math.Nat.{mul-div_cancel, mul-mod_left, mod-eq-sub-div-mul, div-mul-le_self, mul-le-mul_right}
 use Rattle.sg_classes.specs.Classes.{IsAboveEntry}
 use Rattle.sg_factor.specs.Bounds.{AreBounds}
+use Rattle.sg_factor.specs.Skips.{AreSkips}
+use Rattle.sg_factor.proofs.SkipLemmas.{skips-drop}
 use Rattle.std.specs.Prelude.{slice_index_or}
 use Rattle.sg_defs.specs.Vectors.{IsLexBelow}
 use Rattle.sg_defs.specs.Membership.{IsFactorization, IsMember}
 use Rattle.sg_defs.proofs.ListLemmas.{contains-cases}
 use Rattle.sg_laws_finite.specs.Listing.{levels, all_factorizations}
 use Rattle.sg_laws_finite.proofs.ElementLemmas.{contains-nil, here, pairs-nil}
-use Rattle.sg_laws_finite.proofs.LevelLemmas.{levels-zero, levels-more, length-level}
+use Rattle.sg_laws_finite.proofs.LevelLemmas.{levels-zero, levels-more}
 use Rattle.sg_laws_finite.proofs.FactorizationLemmas.{factorizations-listed, all-first}
 use Rattle.sg_laws_finite.proofs.OneListLemmas.{one-descending}
 
@@ -80,36 +82,61 @@ place-set P v i c zs inside begins =
     map-same (λ z. take (suc i) (set v i c) ++ z) (λ z. P ++ c ∷ z)
     (λ z. ap (λ u. u ++ z) (take-suc-set v i c inside ∙ ap (λ u. u ++ c ∷ []) begins) ∙ append_assoc P (c ∷ []) z) zs
 
+-- what is mapped from the end
+pub reverse-map : (f : List ℕ → List ℕ) (xs : List (List ℕ)) → reverse (map f xs) ≡ map f (reverse xs)
+reverse-map f [] = refl
+reverse-map f (x ∷ xs) =
+    reverse-append (f x ∷ []) (map f xs) ∙ ap (λ ys. ys ++ f x ∷ []) (reverse-map f xs) ∙ sym (map-append f (reverse xs) (x ∷ []))
+    ∙ ap (map f) (sym (reverse-append (x ∷ []) xs))
+
 -- one more level at the end of what was listed before
-pub levels-placed : (P : List ℕ) (rest : ℕ → List (List ℕ)) (count step : ℕ) (rows new total : List (List ℕ)) → step < count →
-    rows ++ map (λ z. P ++ z) (levels rest (count - step)) ≡ total → new ≡ rows ++ map (λ z. P ++ (count - 1 - step) ∷ z) (rest (count - 1 - step)) →
-    new ++ map (λ z. P ++ z) (levels rest (count - (step + 1))) ≡ total
-levels-placed P rest count step rows new total inside before made =
-    let k = count - 1 - step in
-    let now : count - (step + 1) ≡ k = omega arith in
-    let then : suc k ≡ count - step = omega arith in
-    let level = map (λ z. P ++ k ∷ z) (rest k) in
-    let lower = map (λ z. P ++ z) (levels rest k) in
-    let split : map (λ z. P ++ z) (levels rest (suc k)) ≡ level ++ lower =
-    ap (map (λ z. P ++ z)) (levels-more rest k) ∙ map-append (λ z. P ++ z) (map (λ z. k ∷ z) (rest k)) (levels rest k)
-    ∙ ap (λ u. u ++ lower) (map-map (λ z. P ++ z) (λ z. k ∷ z) (rest k)) in
-    ap (λ j. new ++ map (λ z. P ++ z) (levels rest j)) now ∙ ap (λ u. u ++ lower) made ∙ append_assoc rows level lower
-    ∙ ap (λ u. rows ++ u) (sym split) ∙ ap (λ j. rows ++ map (λ z. P ++ z) (levels rest j)) then ∙ before
+pub levels-placed : (P : List ℕ) (rest : ℕ → List (List ℕ)) (times : ℕ) (first rows new : List (List ℕ)) →
+    rows ≡ first ++ map (λ z. P ++ z) (reverse (levels rest times)) → new ≡ rows ++ map (λ z. P ++ times ∷ z) (reverse (rest times)) →
+    new ≡ first ++ map (λ z. P ++ z) (reverse (levels rest (suc times)))
+levels-placed P rest times first rows new before made =
+    let lower = map (λ z. P ++ z) (reverse (levels rest times)) in
+    let level = map (λ z. P ++ times ∷ z) (reverse (rest times)) in
+    let split : reverse (levels rest (suc times)) ≡ reverse (levels rest times) ++ map (λ z. times ∷ z) (reverse (rest times)) =
+    ap reverse (levels-more rest times) ∙ reverse-append (map (λ z. times ∷ z) (rest times)) (levels rest times)
+    ∙ ap (λ u. reverse (levels rest times) ++ u) (reverse-map (λ z. times ∷ z) (rest times)) in
+    let both : map (λ z. P ++ z) (reverse (levels rest (suc times))) ≡ lower ++ level =
+    ap (map (λ z. P ++ z)) split ∙ map-append (λ z. P ++ z) (reverse (levels rest times)) (map (λ z. times ∷ z) (reverse (rest times)))
+    ∙ ap (λ u. lower ++ u) (map-map (λ z. P ++ z) (λ z. times ∷ z) (reverse (rest times))) in
+    made ∙ ap (λ u. u ++ level) before ∙ append_assoc first lower level ∙ ap (λ u. first ++ u) (sym both)
+
+-- fewer levels are no longer
+levels-shorter : (rest : ℕ → List (List ℕ)) (k d : ℕ) → length (levels rest k) ≤ length (levels rest (k + d))
+levels-shorter rest k zero = omega (arith, ap (λ j. length (levels rest j)) (let e : k + 0 ≡ k = omega arith in e))
+levels-shorter rest k (suc d) =
+    let e : k + suc d ≡ suc (k + d) = omega arith in
+    omega (arith, levels-shorter rest k d, ap (λ j. length (levels rest j)) e, ap length (levels-more rest (k + d)), length-append (map (λ z. (k + d) ∷ z) (rest (k + d))) (levels rest (k + d)))
 
 -- what was listed before and one level are no more than all
-pub levels-too_many : (P : List ℕ) (rest : ℕ → List (List ℕ)) (count step b : ℕ) (rows first all : List (List ℕ)) → step < count →
-    rows ++ map (λ z. P ++ z) (levels rest (count - step)) ≡ first ++ map (λ z. P ++ z) all → b < length rows + length (rest (count - 1 - step)) → b < length first + length all
-levels-too_many P rest count step b rows first all inside before h =
-    let long = length-level rest (count - step) (count - 1 - step) (omega arith) in
+pub levels-too_many : (P : List ℕ) (rest : ℕ → List (List ℕ)) (times count b : ℕ) (first rows : List (List ℕ)) → times < count →
+    rows ≡ first ++ map (λ z. P ++ z) (reverse (levels rest times)) → b < length rows + length (rest times) → b < length first + length (levels rest count)
+levels-too_many P rest times count b first rows inside before h =
+    let e : suc times + (count - suc times) ≡ count = omega arith in
     omega (
       arith,
-      long,
+      h,
       ap length before,
-      length-append rows (map (λ z. P ++ z) (levels rest (count - step))),
-      length-append first (map (λ z. P ++ z) all),
-      length-map (levels rest (count - step)) (λ z. P ++ z),
-      length-map all (λ z. P ++ z),
+      length-append first (map (λ z. P ++ z) (reverse (levels rest times))),
+      length-map (reverse (levels rest times)) (λ z. P ++ z),
+      length-reverse (levels rest times),
+      ap length (levels-more rest times),
+      length-append (map (λ z. times ∷ z) (rest times)) (levels rest times),
+      length-map (rest times) (λ z. times ∷ z),
+      levels-shorter rest (suc times) (count - suc times),
+      ap (λ j. length (levels rest j)) e,
     )
+
+-- empty levels are left out
+levels-skip : (rest : ℕ → List (List ℕ)) (k dead : ℕ) → ((j : ℕ) → j < dead → rest (k + j) ≡ []) → levels rest k ≡ levels rest (k + dead)
+levels-skip rest k zero none = ap (levels rest) (let e : k ≡ k + 0 = omega arith in e)
+levels-skip rest k (suc dead) none =
+    levels-skip rest k dead (λ j l. none j (omega arith))
+    ∙ sym (levels-more rest (k + dead) ∙ ap (λ zs. map (λ z. (k + dead) ∷ z) zs ++ levels rest (k + dead)) (none dead (omega arith)))
+    ∙ ap (levels rest) (let e : suc (k + dead) ≡ k + suc dead = omega arith in e)
 
 -- ---- the bounds
 
@@ -124,27 +151,39 @@ bounds-drop (g ∷ G) bounds some h = record {
       subst (λ i. IsAboveEntry (slice_index_or bounds i []) x) e (h.below (suc k) x (omega arith) m);
 }
 
--- below its entry a number has no factorization
-pub all-below_bound : (G : List ℕ) (bounds : List (List ℕ)) (n : ℕ) → 0 < length G → All (λ g. 1 ≤ g) G → AreBounds G bounds →
-    (IsAboveEntry (slice_index_or bounds (length G - 1) []) n → ⊥) → all_factorizations G n ≡ []
-all-below_bound G bounds n some p h less = all-of_none G n p (λ m.
-    let e : length G - 1 - 0 ≡ length G - 1 = omega arith in
-    less (subst (λ i. IsAboveEntry (slice_index_or bounds i []) n) e (h.below 0 n some m)))
+-- where rests are below their entries, the levels are empty
+pub dead-levels : (G : List ℕ) (bounds : List (List ℕ)) (n times dead : ℕ) → 1 < length G → All (λ g. 1 ≤ g) G → AreBounds G bounds → times + dead ≤ n / get_or G 0 0 + 1 →
+    ((j : ℕ) → j < dead → j * get_or G 0 0 ≤ n - times * get_or G 0 0 →
+    IsAboveEntry (slice_index_or bounds (length G - 2) []) (n - times * get_or G 0 0 - j * get_or G 0 0) → ⊥) →
+    levels (λ c. all_factorizations (drop 1 G) (n - c * get_or G 0 0)) times ≡ levels (λ c. all_factorizations (drop 1 G) (n - c * get_or G 0 0)) (times + dead)
+dead-levels G bounds n times dead several p h fits none = levels-skip (λ c. all_factorizations (drop 1 G) (n - c * get_or G 0 0)) times dead each
+  where
+    each : (j : ℕ) → j < dead → all_factorizations (drop 1 G) (n - (times + j) * get_or G 0 0) ≡ []
+    each j l =
+        let g = get_or G 0 0 in
+        let whole : (times + j) * g ≤ n = omega (arith, mul-le-mul_right g (let q : times + j ≤ n / g = omega arith in q), div-mul-le_self n g) in
+        let split : (times + j) * g ≡ times * g + j * g = omega arith in
+        let same : n - times * g - j * g ≡ n - (times + j) * g = omega (arith, split) in
+        let row : length G - 1 - 1 ≡ length G - 2 = omega arith in
+        all-of_none (drop 1 G) (n - (times + j) * g) (All-drop (λ g. 1 ≤ g) 1 G p)
+        (λ q. none j l (omega (arith, whole, split))
+        (subst (IsAboveEntry (slice_index_or bounds (length G - 2) [])) (sym same)
+        (subst (λ i. IsAboveEntry (slice_index_or bounds i []) (n - (times + j) * g)) row (h.below 1 (n - (times + j) * g) several q))))
 
 -- ---- the steps of a program
 
 -- nothing is listed of a number without factorizations
-pub listed-nothing : (P : List ℕ) (rows all : List (List ℕ)) → all ≡ [] → rows ≡ rows ++ map (λ z. P ++ z) all
-listed-nothing P rows all none = sym (append-nil rows) ∙ ap (λ zs. rows ++ map (λ z. P ++ z) zs) (sym none)
+pub listed-nothing : (P : List ℕ) (rows all : List (List ℕ)) → all ≡ [] → rows ≡ rows ++ map (λ z. P ++ z) (reverse all)
+listed-nothing P rows all none = sym (append-nil rows) ∙ ap (λ zs. rows ++ map (λ z. P ++ z) (reverse zs)) (sym none)
 
 -- the one vector of the last place
 pub listed-last : (g n : ℕ) (v : List ℕ) (rows new : List (List ℕ)) → 1 ≤ g → n % g ≡ 0 → 0 < length v → new ≡ rows ++ set v (length v - 1) (n / g) ∷ [] →
-    new ≡ rows ++ map (λ z. take (length v - 1) v ++ z) (all_factorizations (g ∷ []) n)
+    new ≡ rows ++ map (λ z. take (length v - 1) v ++ z) (reverse (all_factorizations (g ∷ []) n))
 listed-last g n v rows new some even long made =
     let last = length v - 1 in
     let e : set v last (n / g) ≡ take last v ++ (n / g) ∷ [] =
     sym (take_all (suc last) (set v last (n / g)) (omega (arith, length-set v last (n / g)))) ∙ take-suc-set v last (n / g) (omega arith) in
-    made ∙ ap (λ u. rows ++ u ∷ []) e ∙ ap (λ zs. rows ++ map (λ z. take last v ++ z) zs) (sym (all-last_some g n some even))
+    made ∙ ap (λ u. rows ++ u ∷ []) e ∙ ap (λ zs. rows ++ map (λ z. take last v ++ z) (reverse zs)) (sym (all-last_some g n some even))
 
 -- a list of one number
 pub one-place : (G : List ℕ) → length G ≡ 1 → G ≡ get_or G 0 0 ∷ []
@@ -162,40 +201,37 @@ others-positive G p = subst (All (λ g. 1 ≤ g)) (sym (others G)) (All-drop (λ
 pub others-bounded : (G : List ℕ) (bounds : List (List ℕ)) → 0 < length G → AreBounds G bounds → AreBounds (take (length G - 1) (drop 1 G)) bounds
 others-bounded G bounds some h = subst (λ H. AreBounds H bounds) (sym (others G)) (bounds-drop G bounds some h)
 
--- so often the number fits
-pub times-fit : (n g count step : ℕ) → 0 < g → count ≡ n / g + 1 → step < count → (count - 1 - step) * g ≤ n
-times-fit n g count step some e l =
-    let most : count - 1 - step ≤ n / g = omega arith in
-    omega (arith, mul-le-mul_right g most, div-mul-le_self n g)
+pub others-skips : (G : List ℕ) (bounds skips : List (List ℕ)) → AreSkips G bounds skips → AreSkips (take (length G - 1) (drop 1 G)) bounds skips
+others-skips G bounds skips h = subst (λ H. AreSkips H bounds skips) (sym (others G)) (skips-drop G bounds skips h)
 
--- all levels are still to come
-pub levels-init : (G : List ℕ) (n count : ℕ) (P : List ℕ) (rows : List (List ℕ)) → 0 < length G → count ≡ n / get_or G 0 0 + 1 →
-    rows ++ map (λ z. P ++ z) (levels (λ c. all_factorizations (drop 1 G) (n - c * get_or G 0 0)) (count - 0)) ≡ rows ++ map (λ z. P ++ z) (all_factorizations G n)
-levels-init G n count P rows some e =
-    ap (λ zs. rows ++ map (λ z. P ++ z) zs)
-    (ap (levels (λ c. all_factorizations (drop 1 G) (n - c * get_or G 0 0))) (let f : count - 0 ≡ n / get_or G 0 0 + 1 = omega arith in f) ∙ sym (all-first G n some))
+-- so often the number fits
+pub times-fit : (n g times : ℕ) → times < n / g + 1 → times * g ≤ n
+times-fit n g times l = omega (arith, mul-le-mul_right g (let most : times ≤ n / g = omega arith in most), div-mul-le_self n g)
+
+-- no level is listed yet
+pub levels-init : (rest : ℕ → List (List ℕ)) (P : List ℕ) (rows : List (List ℕ)) → rows ≡ rows ++ map (λ z. P ++ z) (reverse (levels rest 0))
+levels-init rest P rows = sym (append-nil rows) ∙ ap (λ zs. rows ++ map (λ z. P ++ z) (reverse zs)) (sym (levels-zero rest))
 
 -- what the others give is one level
-pub level-listed : (G v : List ℕ) (n count step : ℕ) (rows new total : List (List ℕ)) (v0 : List ℕ) → 1 < length G → length G ≤ length v0 → length v ≡ length v0 → step < count →
+pub level-listed : (G v : List ℕ) (n times : ℕ) (first rows new : List (List ℕ)) (v0 : List ℕ) → 1 < length G → length G ≤ length v0 → length v ≡ length v0 →
     take (length v - length G) v ≡ take (length v0 - length G) v0 →
-    rows ++ map (λ z. take (length v0 - length G) v0 ++ z) (levels (λ c. all_factorizations (drop 1 G) (n - c * get_or G 0 0)) (count - step)) ≡ total →
-    new ≡ rows ++ map (λ z. take (length (set v (length v0 - length G) (count - 1 - step)) - length (take (length G - 1) (drop 1 G))) (set v (length v0 - length G) (count - 1 - step)) ++ z)
-    (all_factorizations (take (length G - 1) (drop 1 G)) (n - (count - 1 - step) * get_or G 0 0)) →
-    new ++ map (λ z. take (length v0 - length G) v0 ++ z) (levels (λ c. all_factorizations (drop 1 G) (n - c * get_or G 0 0)) (count - (step + 1))) ≡ total
-level-listed G v n count step rows new total v0 some long same inside begins before made =
+    rows ≡ first ++ map (λ z. take (length v0 - length G) v0 ++ z) (reverse (levels (λ c. all_factorizations (drop 1 G) (n - c * get_or G 0 0)) times)) →
+    new ≡ rows ++ map (λ z. take (length (set v (length v0 - length G) times) - length (take (length G - 1) (drop 1 G))) (set v (length v0 - length G) times) ++ z)
+    (reverse (all_factorizations (take (length G - 1) (drop 1 G)) (n - times * get_or G 0 0))) →
+    new ≡ first ++ map (λ z. take (length v0 - length G) v0 ++ z) (reverse (levels (λ c. all_factorizations (drop 1 G) (n - c * get_or G 0 0)) (times + 1)))
+level-listed G v n times first rows new v0 some long same begins before made =
     let at = length v0 - length G in
-    let times = count - 1 - step in
     let P = take at v0 in
     let rest = λ (c : ℕ). all_factorizations (drop 1 G) (n - c * get_or G 0 0) in
     let short : length (set v at times) - length (take (length G - 1) (drop 1 G)) ≡ suc at =
     omega (arith, length-set v at times, ap length (others G), length-drop 1 G) in
-    let zs = rest times in
-    let first : take at v ≡ P = ap (λ k. take k v) (let e : at ≡ length v - length G = omega arith in e) ∙ begins in
+    let zs = reverse (rest times) in
+    let start : take at v ≡ P = ap (λ k. take k v) (let e : at ≡ length v - length G = omega arith in e) ∙ begins in
     let e : new ≡ rows ++ map (λ z. P ++ times ∷ z) zs =
-    made ∙ ap (λ k. rows ++ map (λ z. take k (set v at times) ++ z) (all_factorizations (take (length G - 1) (drop 1 G)) (n - times * get_or G 0 0))) short
-    ∙ ap (λ H. rows ++ map (λ z. take (suc at) (set v at times) ++ z) (all_factorizations H (n - times * get_or G 0 0))) (others G)
-    ∙ ap (λ xs. rows ++ xs) (place-set P v at times zs (omega arith) first) in
-    levels-placed P rest count step rows new total inside before e
+    made ∙ ap (λ k. rows ++ map (λ z. take k (set v at times) ++ z) (reverse (all_factorizations (take (length G - 1) (drop 1 G)) (n - times * get_or G 0 0)))) short
+    ∙ ap (λ H. rows ++ map (λ z. take (suc at) (set v at times) ++ z) (reverse (all_factorizations H (n - times * get_or G 0 0)))) (others G)
+    ∙ ap (λ xs. rows ++ xs) (place-set P v at times zs (omega arith) start) in
+    levels-placed P rest times first rows new before e ∙ ap (λ k. first ++ map (λ z. P ++ z) (reverse (levels rest k))) (let f : suc times ≡ times + 1 = omega arith in f)
 
 -- and the places before it stay
 pub begins-kept : (G v new v0 : List ℕ) (times : ℕ) → 1 < length G → length G ≤ length v0 → length v ≡ length v0 → length new ≡ length v0 →
@@ -211,10 +247,12 @@ begins-kept G v new v0 times some long same many begins kept =
     let first : take at v ≡ take at v0 = ap (λ k. take k v) (let e : at ≡ length v - length G = omega arith in e) ∙ begins in
     ap (λ k. take k new) f ∙ sym (take-take at (suc at) new (omega arith)) ∙ ap (take at) e ∙ take-take at (suc at) w (omega arith) ∙ take-set-le at v at times (omega arith) ∙ first
 
--- no level is left
-pub levels-end : (P : List ℕ) (rest : ℕ → List (List ℕ)) (k : ℕ) (rows total : List (List ℕ)) → k ≡ 0 → rows ++ map (λ z. P ++ z) (levels rest k) ≡ total → rows ≡ total
-levels-end P rest k rows total none h =
-    sym (append-nil rows) ∙ ap (λ xs. rows ++ map (λ z. P ++ z) xs) (sym (levels-zero rest)) ∙ ap (λ j. rows ++ map (λ z. P ++ z) (levels rest j)) (sym none) ∙ h
+-- all levels are all factorizations
+pub levels-end : (G : List ℕ) (n times : ℕ) (P : List ℕ) (first rows : List (List ℕ)) → 0 < length G → times ≡ n / get_or G 0 0 + 1 →
+    rows ≡ first ++ map (λ z. P ++ z) (reverse (levels (λ c. all_factorizations (drop 1 G) (n - c * get_or G 0 0)) times)) → rows ≡ first ++ map (λ z. P ++ z) (reverse (all_factorizations G n))
+levels-end G n times P first rows some end h =
+    h ∙ ap (λ zs. first ++ map (λ z. P ++ z) (reverse zs))
+    (ap (levels (λ c. all_factorizations (drop 1 G) (n - c * get_or G 0 0))) end ∙ sym (all-first G n some))
 
 map-plain : (xs : List (List ℕ)) → map (λ z. [] ++ z) xs ≡ xs
 map-plain [] = refl

@@ -4,4 +4,5 @@ pub mod Faults
 pub mod Greedy
 pub mod LengthTables
 pub mod Nearness
+pub mod Skips
 pub mod Steps

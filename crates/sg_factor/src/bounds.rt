@@ -12,21 +12,20 @@ use sg_nat::{Nats, Rows, gcd};
 use std::alloc::{AllocError, Global};
 
 /// The bound of a class in which the generators make nothing.
-const NOTHING: u64 = u64::MAX;
+pub(crate) const NOTHING: u64 = u64::MAX;
 
 /// The class that a step leads to.
-fn class_after(from: usize, step: usize, classes: usize) -> usize
+pub(crate) fn class_after(from: usize, step: usize, classes: usize) -> usize
     requires from { from < classes }
     requires step { step < classes }
-    requires short { classes ≤ MULTIPLICITY_LIMIT }
     ensures class { result ≡ (from + step) % classes }
     ensures inside { result < classes }
 {
-    let reach = from + step;
-    if reach < classes {
-        reach
+    let room = classes - from;
+    if step < room {
+        from + step
     } else {
-        reach - classes
+        step - room
     }
 }
 

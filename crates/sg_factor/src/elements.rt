@@ -9,11 +9,10 @@ ghost use Rattle.sg_nonunique.specs.Factorizations.{AreFactorizations, IsInteger
 ghost use Rattle.sg_factor.specs.Faults.{IsRefused};
 ghost use Rattle.sg_factor.specs.Nearness.{AreComparable};
 
-use crate::bounds::class_bounds;
 use crate::catenary::catenary_of;
+use crate::descending::list_descending;
 use crate::fault::FactorFault;
 use crate::limits::{CATENARY_LIMIT, FACTORIZATION_LIMIT};
-use crate::listing::list_all;
 use sg_apery::Table;
 use sg_nat::Rows;
 use std::alloc::Global;
@@ -35,8 +34,7 @@ pub fn factorizations_within(
     ensures many { IfErr result (IsRefused (Exceeds (IsFactorization t.now n) limit)) }
 {
     let generators = t.generators().as_slice();
-    let bounds = class_bounds(alloc, generators, t.multiplicity())?;
-    list_all(alloc, generators, bounds.as_slice(), n, limit)
+    list_descending(alloc, generators, t.multiplicity(), n, limit)
 }
 
 /// All factorizations of an integer, in descending lexicographic order. One that is no element has none.

@@ -13,6 +13,7 @@ mod bounds;
 mod catenary;
 mod coins;
 mod deltas;
+mod descending;
 mod elements;
 mod fault;
 mod greatest;
@@ -21,6 +22,7 @@ mod length_table;
 mod limits;
 mod listing;
 mod quotient;
+mod skips;
 
 pub use deltas::delta_of;
 pub use elements::{catenary_of_element, factorizations, factorizations_within};

@@ -1,12 +1,13 @@
-//! All factorizations by given generators, in descending order: place by place, with the number at each place going down.
+//! All factorizations by given generators, in ascending order: place by place, with the number at each place going up.
 
-ghost use Rattle.std.specs.Prelude.{◌≡◌, ◌+◌, ◌-◌, ◌<◌, ◌≤◌, ◌^◌, ◌∷◌, ◌++◌, [], length, map, take, All, IfOk, OnOk, IfErr};
+ghost use Rattle.std.specs.Prelude.{◌≡◌, ◌+◌, ◌-◌, ◌<◌, ◌≤◌, ◌^◌, ◌∷◌, ◌++◌, [], length, map, reverse, take, All, IfOk, OnOk, IfErr};
 ghost use Rattle.sg_laws_finite.specs.Listing.{all_factorizations};
 ghost use Rattle.sg_factor.specs.Bounds.{AreBounds};
 ghost use Rattle.sg_factor.specs.Faults.{IsRefused};
+ghost use Rattle.sg_factor.specs.Skips.{AreSkips};
 
 use crate::fault::FactorFault;
-use sg_classes::is_above_entry;
+use crate::skips::dead_steps;
 use sg_nat::{Nats, Rows};
 use std::alloc::{AllocError, Global};
 
@@ -37,7 +38,7 @@ fn list_last(
     requires places { 0 < length vector.old }
     requires within { length rows.old ≤ limit }
     ensures vector { OnOk result (take (length vector.old - 1) vector.new ≡ take (length vector.old - 1) vector.old) }
-    ensures listed { OnOk result (rows.new ≡ rows.old ++ map (λ z. take (length vector.old - 1) vector.old ++ z) (all_factorizations (generator ∷ []) n)) }
+    ensures listed { OnOk result (rows.new ≡ rows.old ++ map (λ z. take (length vector.old - 1) vector.old ++ z) (reverse (all_factorizations (generator ∷ []) n))) }
     ensures within { OnOk result (length rows.new ≤ limit) }
     ensures many { IfErr result (IsRefused (limit < length rows.old + length (all_factorizations (generator ∷ []) n))) }
 {
@@ -49,12 +50,13 @@ fn list_last(
     list_one(alloc, vector, rows, limit)
 }
 
-/// Lists the vectors that begin as `vector` does and go on, by the generators, with a factorization of `n`. Where the
-/// bounds say that there is none, nothing is tried.
+/// Lists the vectors that begin as `vector` does and go on, by the generators, with a factorization of `n`. Numbers at
+/// the first place that leave nothing for the others, as bounds and skips tell, are not tried.
 fn list_from(
     alloc: Global,
     generators: &[u64],
     bounds: &[Nats],
+    skips: &[Nats],
     n: u64,
     vector: &mut [u64],
     rows: &mut Rows,
@@ -65,35 +67,53 @@ fn list_from(
     requires small { n < 2 ^ 63 }
     requires places { length generators.now ≤ length vector.old }
     requires bounds { AreBounds generators.now bounds.now }
+    requires skips { AreSkips generators.now bounds.now skips.now }
     requires within { length rows.old ≤ limit }
     ensures vector { OnOk result (take (length vector.old - length generators.now) vector.new ≡ take (length vector.old - length generators.now) vector.old) }
-    ensures listed { OnOk result (rows.new ≡ rows.old ++ map (λ z. take (length vector.old - length generators.now) vector.old ++ z) (all_factorizations generators.now n)) }
+    ensures listed { OnOk result (rows.new ≡ rows.old ++ map (λ z. take (length vector.old - length generators.now) vector.old ++ z) (reverse (all_factorizations generators.now n))) }
     ensures within { OnOk result (length rows.new ≤ limit) }
     ensures many { IfErr result (IsRefused (limit < length rows.old + length (all_factorizations generators.now n))) }
 {
-    if !is_above_entry(bounds[generators.len() - 1].as_slice(), n) {
-        return Ok(());
-    }
     let generator = generators[0];
     if generators.len() == 1 {
         return list_last(alloc, generator, n, vector, rows, limit);
     }
     let place = vector.len() - generators.len();
+    let others = generators.len() - 2;
+    let bound = bounds[others].as_slice();
+    let skip = skips[others].as_slice();
     let count = n / generator + 1;
-    for step in 0..count {
-        let times = count - 1 - step;
-        vector[place] = times;
+    let mut times = 0;
+    while times < count {
         let rest = n - times * generator;
-        list_from(alloc, &generators[1..], bounds, rest, vector, rows, limit)?;
+        let dead = dead_steps(bound, skip, rest);
+        if dead > 0 {
+            times += dead.min(count - times);
+        } else {
+            vector[place] = times;
+            list_from(
+                alloc,
+                &generators[1..],
+                bounds,
+                skips,
+                rest,
+                vector,
+                rows,
+                limit,
+            )?;
+            times += 1;
+        }
     }
     Ok(())
 }
 
-/// All factorizations of a number by generators, in descending order.
+/// All factorizations of a number by generators, in ascending order. Where there are many, those with small numbers at
+/// the first places come first, and most do.
 pub fn list_all(
     alloc: Global,
     generators: &[u64],
     bounds: &[Nats],
+    skips: &[Nats],
     n: u64,
     limit: usize,
 ) -> Result<Rows, FactorFault>
@@ -101,12 +121,22 @@ pub fn list_all(
     requires some { 0 < length generators.now }
     requires small { n < 2 ^ 63 }
     requires bounds { AreBounds generators.now bounds.now }
-    ensures listed { IfOk result (λ rows. rows ≡ all_factorizations generators.now n) }
+    requires skips { AreSkips generators.now bounds.now skips.now }
+    ensures listed { IfOk result (λ rows. rows ≡ reverse (all_factorizations generators.now n)) }
     ensures within { IfOk result (λ rows. length rows ≤ limit) }
     ensures many { IfErr result (IsRefused (limit < length (all_factorizations generators.now n))) }
 {
     let mut rows = Rows::new(alloc);
     let mut vector = vec![in alloc; 0; generators.len()]?;
-    list_from(alloc, generators, bounds, n, &mut vector, &mut rows, limit)?;
+    list_from(
+        alloc,
+        generators,
+        bounds,
+        skips,
+        n,
+        &mut vector,
+        &mut rows,
+        limit,
+    )?;
     Ok(rows)
 }
